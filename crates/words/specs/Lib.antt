@@ -1,0 +1,14 @@
+-- Words over an alphabet with undos and conflicts: swaps, the group, reduction, the normal form.
+-- A definition file holds what a reader must believe; its laws stand in the file of the same name with Laws.
+pub mod Alphabet
+pub mod All
+pub mod Trace
+pub mod Group
+pub mod Reduce
+pub mod Normal
+pub mod Stack
+pub mod TraceLaws
+pub mod GroupLaws
+pub mod ReduceLaws
+pub mod NormalLaws
+pub mod StackLaws
