@@ -12,3 +12,4 @@ pub mod GroupLaws
 pub mod ReduceLaws
 pub mod NormalLaws
 pub mod StackLaws
+pub mod LetterLaws

@@ -1,0 +1,6 @@
+pub mod ChainLaws
+pub mod Marks
+pub mod MarksLaws
+pub mod ReadLaws
+pub mod Reading
+pub mod Cases

@@ -1,0 +1,41 @@
+-- Rows of marks, and the marks that a walk along a chain sets: two commands that meet are marked in the rows of both.
+use Prim.Native.Nat.{ℕ, zero, suc, _+_, _-_, _<_}
+use mathlib.Core.Path.{_≡_}
+use mathlib.Core.Bool.{_||_}
+use mathlib.Core.List.{List, [], _∷_}
+use lib.ListN.{length, getD, set}
+use Rattle.catalogue.specs.Catalogue.{chain, stands}
+use Rattle.catalogue.specs.Conflict.{bit}
+
+abbrev pub cell : List (List ℕ) → ℕ → ℕ → ℕ
+cell rows i j = getD (getD rows i []) j 0
+
+pub record Shape (rows : List (List ℕ)) : Type 0 where
+  pub tall : length rows ≡ 24
+  pub wide : (i : ℕ) → i < 24 → length (getD rows i []) ≡ 24
+
+-- no mark is set
+pub record Blank (rows : List (List ℕ)) : Type 0 where
+  pub shape : Shape rows
+  pub clear : (i j : ℕ) → i < 24 → j < 24 → cell rows i j ≡ 0
+
+abbrev pub put : List (List ℕ) → ℕ → ℕ → List (List ℕ)
+put rows i j = set rows i (set (getD rows i []) j 1)
+
+abbrev pub pair : List (List ℕ) → ℕ → ℕ → List (List ℕ)
+pair rows a b = put (put rows (a - 1) (b - 1)) (b - 1) (a - 1)
+
+unfoldable pub pairs : List (List ℕ) → ℕ → List ℕ → List (List ℕ)
+pairs rows a [] = rows
+pairs rows a (b ∷ bs) = pairs (pair rows a b) a bs
+
+-- a mark in row i at place i, for i below k
+unfoldable pub diagonal : List (List ℕ) → ℕ → List (List ℕ)
+diagonal rows zero = rows
+diagonal rows (suc k) = put (diagonal rows k) k k
+
+-- a mark wherever one command stands in the chain of the other
+pub record Met (c : List ℕ) (rows : List (List ℕ)) : Type 0 where
+  pub shape : Shape rows
+  pub marks : (i j : ℕ) → i < 24 → j < 24
+      → cell rows i j ≡ bit (stands (j + 1) (chain c (i + 1)) || stands (i + 1) (chain c (j + 1)))
