@@ -1,0 +1,16 @@
+-- Heights changed by a line of the conflict table, index by index.
+use Prim.Native.Nat.{ℕ, _<_}
+use mathlib.Core.Path.{_≡_}
+use mathlib.Core.List.{List}
+use lib.ListN.{length, getD}
+
+-- 24 heights and a line of 24 numbers, with P at each index
+pub record Both (P : ℕ → ℕ → Type 0) (heights line : List ℕ) : Type 0 where
+  pub many : length heights ≡ 24
+  pub wide : length line ≡ 24
+  pub holds : (i : ℕ) → i < 24 → P (getD heights i 0) (getD line i 0)
+
+-- at each index the last height is f of the first and of the line's number
+pub record Changed (f : ℕ → ℕ → ℕ) (line first last : List ℕ) : Type 0 where
+  pub kept : length last ≡ length first
+  pub each : (i : ℕ) → i < 24 → getD last i 0 ≡ f (getD first i 0) (getD line i 0)

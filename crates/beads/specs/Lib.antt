@@ -1,0 +1,4 @@
+pub mod Blank
+pub mod Heights
+pub mod HeightsLaws
+pub mod BeadsLaws

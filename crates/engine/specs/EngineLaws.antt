@@ -1,0 +1,98 @@
+-- The piling of a plan read off is its normal form, and equal pilings are equal normal forms.
+use Prim.Native.Nat.{ℕ, _≤_}
+use mathlib.Core.Path.{_≡_, refl, sym, _∙_, ap, ap₂, subst, subst₂}
+use mathlib.Core.List.{List, [], _∷_, _++_, reverse, reverse-reverse}
+use mathlib.Core.Bool.{true}
+use mathlib.Core.Logic.{_↔_}
+use native.Mathlib.Omega.{arith}
+use lib.ListN.{length, drop, length-reverse}
+use Rattle.words.specs.All.{All, all-map, all-reverse}
+use Rattle.words.specs.Trace as Trace
+use Rattle.words.specs.Group as Group
+use Rattle.words.specs.Group.{then, back}
+use Rattle.words.specs.GroupLaws.{~→≈, ≈-reverse}
+use Rattle.words.specs.Reduce.{reduce}
+use Rattle.words.specs.ReduceLaws.{reduce-≈, reduce-~, reduce-back, reduce-reduced, reduced-reverse, reduce-length}
+use Rattle.words.specs.Normal.{lex}
+use Rattle.words.specs.NormalLaws.{lex-sorts, sorts-nf, nf-complete, nf-sound}
+use Rattle.words.specs.LetterLaws.{all-reduce}
+use Rattle.catalogue.specs.Catalogue.{commands}
+use Rattle.plan.specs.Plan.{isCommand}
+use Rattle.plan.specs.Letters.{letters, alphabet, normalForm}
+use Rattle.plan.specs.LettersLaws.{letters-commands, letters-length}
+use Rattle.plan.specs.CommandLaws.{command-range}
+use Rattle.plan.specs.Lettered.{Lettered}
+use Rattle.piling.specs.Piling.{Piled}
+use Rattle.piling.specs.Pile.{Given, reduced}
+use Rattle.reading.specs.Reading.{Readable, ReadOff}
+use Rattle.reading.specs.PiledLaws.{piled-readable}
+use Rattle.piling.specs.BlankLaws.{piled-blank}
+use Rattle.beads.specs.Blank.{blankRows, blankHeights}
+use Rattle.engine.specs.Passed.{Passed, Starts}
+
+module _ {c : List ℕ} {conflicts : List (List ℕ)} {v : List ℕ} (p : Passed c conflicts v) where
+  -- a plan that has passed can be piled into blank rows
+  pub passed-given : {rows : List (List ℕ)} {heights : List ℕ} → rows ≡ blankRows → heights ≡ blankHeights
+      → Given c v conflicts rows heights
+  passed-given {rows} {heights} e f =
+      record {
+        few = p .few;
+        passing = p .passing;
+        short = p .short;
+        table = p .table;
+        blank = subst₂ (λ r h. Piled c r h []) (sym e) (sym f) (piled-blank c);
+      }
+
+  pub passed-lettered : All Lettered (reduced c v)
+  passed-lettered =
+      all-reduce (alphabet c) Lettered (reverse (letters v))
+      (all-reverse Lettered (letters v) (all-map lettered (letters v) (letters-commands (commands c) v (p .passing))))
+    where
+      lettered : (b : ℕ) → isCommand (commands c) b ≡ true → Lettered b
+      lettered b e =
+          let (l, h) = command-range (commands c) b (omega (arith, p .few)) e in
+          (l, omega (arith, p .few))
+
+module _ (c v : List ℕ) where
+  infix 20 _≈_
+  abbrev _≈_ : List ℕ → List ℕ → Type 0
+  _≈_ = Group._≈_ (alphabet c)
+
+  pub reduced-length : length (reduced c v) ≤ length v
+  reduced-length =
+      omega (arith, reduce-length (alphabet c) (reverse (letters v)), length-reverse (letters v), letters-length v)
+
+  pub reduced-word : reverse (reduced c v) ≈ letters v
+  reduced-word =
+      subst (λ x. reverse (reduced c v) ≈ x) (reverse-reverse (letters v))
+      (≈-reverse (alphabet c) (reduce-≈ (alphabet c) (reverse (letters v))))
+
+  -- what is read off
+  pub read-normal : lex (alphabet c) (length (reverse (reduced c v))) (reverse (reduced c v)) ≡ normalForm c v
+  unfolding normalForm
+  read-normal =
+      sorts-nf (alphabet c) (lex-sorts (alphabet c) (length (reverse (reduced c v))) (reverse (reduced c v)) refl)
+      (reduced-reverse (alphabet c) (reduced c v) (reduce-reduced (alphabet c) (reverse (letters v)))) reduced-word
+
+module _ {c : List ℕ} {conflicts : List (List ℕ)} {v : List ℕ} (p : Passed c conflicts v) {rows : List (List ℕ)}
+    {heights at : List ℕ} (area : List ℕ) (q : Piled c rows heights (reduced c v)) (e : at ≡ blankHeights)
+    (l : length v ≤ length area) where
+  pub passed-readable : Readable c conflicts rows heights at (reverse (reduced c v)) area
+  passed-readable =
+      subst (λ a. Readable c conflicts rows heights a (reverse (reduced c v)) area) (sym e)
+      (piled-readable q (passed-lettered p) area (p .table) (omega (arith, reduced-length c v)))
+
+pub read-starts : (c v : List ℕ) {area after : List ℕ} {r : ℕ} → ReadOff c (reverse (reduced c v)) area after r
+    → Starts (normalForm c v) area after r
+read-starts c v {area} o =
+    let n = o .count ∙ ap length (read-normal c v) in
+    record { count = n; area = o .bytes ∙ ap₂ (λ x k. x ++ drop k area) (read-normal c v) n }
+
+-- what is compared
+pub same-normal : (c v w : List ℕ)
+    → (Trace._~_ (alphabet c) (reduced c v) (reduced c w)) ↔ (normalForm c v ≡ normalForm c w)
+unfolding normalForm
+same-normal c v w = (
+  λ e. nf-complete (alphabet c) (then (back (reduced-word c v)) (then (≈-reverse (alphabet c) (~→≈ (alphabet c) e)) (reduced-word c w))),
+  λ e. reduce-~ (alphabet c) (≈-reverse (alphabet c) (nf-sound (alphabet c) (letters v) (letters w) e)),
+)

@@ -1,0 +1,30 @@
+-- What the checks before a call promise: the answer that the lines give, and what holds where none of them refuses.
+use Prim.Native.Nat.{ℕ}
+use mathlib.Core.Path.{_≡_}
+use mathlib.Core.List.{List, _++_}
+use mathlib.Core.Option.{Option, none}
+use Rattle.refusal.specs.Line.{Line, toldChecked, firstLine, orElse}
+use Rattle.refusal.specs.declared.Checked.{Checked}
+use Rattle.catalogue.specs.Catalogue.{commands, catalogueLines}
+use Rattle.plan.specs.Plan.{planLines}
+use Rattle.engine.specs.Passed.{Passed}
+use Rattle.calls.specs.Calls.{planLimit}
+
+-- the answer r is refused by the first of these lines that holds; where none does it carries the number of commands of
+-- catalogue c, and P holds
+pub record Entered (c : List ℕ) (ls : List (Option Line)) (P : Type 0) (r : Checked) : Type 0 where
+  pub told : toldChecked r ≡ orElse (firstLine ls) (commands c)
+  pub passed : firstLine ls ≡ none → P
+
+-- lines 1 to 8 for the first plan, and for both
+abbrev pub oneLines : List ℕ → List ℕ → List (Option Line)
+oneLines c v = catalogueLines c ++ planLines 1 planLimit (commands c) v
+
+abbrev pub twoLines : List ℕ → List ℕ → List ℕ → List (Option Line)
+twoLines c v w = oneLines c v ++ planLines 2 planLimit (commands c) w
+
+abbrev pub OnePlan : List ℕ → List ℕ → List (List ℕ) → Checked → Type 0
+OnePlan c v rows = Entered c (oneLines c v) (Passed c rows v)
+
+abbrev pub TwoPlans : List ℕ → List ℕ → List ℕ → List (List ℕ) → Checked → Type 0
+TwoPlans c v w rows = Entered c (twoLines c v w) (Passed c rows v × Passed c rows w)

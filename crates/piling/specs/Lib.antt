@@ -1,0 +1,6 @@
+pub mod Piling
+pub mod Push
+pub mod Pile
+pub mod PilingLaws
+pub mod BlankLaws
+pub mod PileLaws

@@ -1,0 +1,76 @@
+// The piling of a plan: one stack of beads for each command. A letter cancels with its undo on top of the stack of its
+// own command, or puts its byte there and a 0 on each other stack whose command conflicts with it.
+
+use beads::lift;
+use beads::lower;
+ghost use Prim.Native.Nat.{ℕ, _<_};
+ghost use mathlib.Core.Path.{_≡_};
+ghost use mathlib.Core.List.{List};
+ghost use Rattle.words.specs.Reduce.{act};
+ghost use Rattle.plan.specs.Byte.{commandOf, undone};
+ghost use Rattle.plan.specs.Letters.{alphabet};
+ghost use Rattle.piling.specs.Piling.{Piled};
+ghost use Rattle.piling.specs.Push.{Ready};
+ghost use Rattle.piling.specs.Pile.{Given, reduced};
+
+// The undo of a byte of some command: plan::undo less its tests for 0 and 128, in the loop over a plan's letters.
+fn opposite(letter: u8) -> u8
+    requires { ⌜ 0 < commandOf letter ⌝ }
+    ensures { λ r. ⌜ r ≡ undone letter ⌝ }
+{
+    if letter < 128 {
+        letter + 128
+    } else {
+        letter - 128
+    }
+}
+
+// One letter of command k + 1, whose line of conflicts tells which stacks it meets. Past a stack's height all is 0, so
+// that no 0 has to be written. The bead is written last: so the compiler changes eight heights at a time.
+pub fn push(
+    rows: &mut [[u8; 1024]; 24],
+    heights: &mut [u16; 24],
+    line: &[u16; 24],
+    k: usize,
+    letter: u8,
+)
+    requires { ⌜ ((c : List ℕ) × (z : List ℕ) × Ready c (now rows) (now heights) (now line) k letter z) ⌝ }
+    ensures { λ r. ⌜ ((c z : List ℕ)
+        → Ready c (now (rows .entry)) (now (heights .entry)) (now (line .entry)) k letter z
+        → Piled c (now (rows .exit)) (now (heights .exit)) (act (alphabet c) letter z)) ⌝ }
+{
+    let h = heights[k] as usize;
+    if h > 0 {
+        if rows[k][h - 1] == opposite(letter) {
+            lower(heights, line);
+            rows[k][h - 1] = 0;
+            return;
+        }
+    }
+    lift(heights, line);
+    rows[k][h] = letter;
+}
+
+// The piling of a plan that passes, in rows with no bead. conflicts has a line for each command.
+pub fn pile(
+    plan: &[u8],
+    conflicts: &[[u16; 24]; 24],
+    rows: &mut [[u8; 1024]; 24],
+    heights: &mut [u16; 24],
+)
+    requires { ⌜ ((c : List ℕ) × Given c (now plan) (now conflicts) (now rows) (now heights)) ⌝ }
+    ensures { λ r. ⌜ ((c : List ℕ)
+        → Given c (now (plan .entry)) (now (conflicts .entry)) (now (rows .entry)) (now (heights .entry))
+        → Piled c (now (rows .exit)) (now (heights .exit)) (reduced c (now (plan .entry)))) ⌝ }
+{
+    let mut i = 0;
+    while i < plan.len() {
+        let letter = plan[i];
+        if letter != 0 {
+            let k = (letter % 128) as usize - 1;
+            let line = conflicts[k];
+            push(rows, heights, &line, k, letter);
+        }
+        i += 1;
+    }
+}

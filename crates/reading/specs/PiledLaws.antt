@@ -1,0 +1,45 @@
+-- A whole piling, with every bottom at 0, has left the word piled up: it can be read off.
+use Prim.Native.Nat.{ℕ, _+_, _<_, _≤_}
+use mathlib.Core.Path.{_≡_, refl, sym, _∙_, ap}
+use mathlib.Core.List.{List, [], reverse}
+use native.Mathlib.Omega.{arith}
+use lib.ListN.{length, getD, getD-replicate, length-reverse}
+use lib.Seq.{slice}
+use Rattle.words.specs.All.{All, all-reverse}
+use Rattle.words.specs.StackLaws.{stack-read}
+use Rattle.catalogue.specs.Conflict.{Conflicts}
+use Rattle.plan.specs.Letters.{alphabet}
+use Rattle.plan.specs.Lettered.{Lettered}
+use Rattle.beads.specs.Blank.{blankHeights}
+use Rattle.beads.specs.BeadsLaws.{beads-fit}
+use Rattle.piling.specs.Piling.{Piled}
+use Rattle.piling.specs.PilingLaws.{piled-beads}
+use Rattle.reading.specs.Reading.{Left, Readable}
+
+bottom-zero : (i : ℕ) → i < 24 → getD blankHeights i 0 ≡ 0
+unfolding blankHeights
+bottom-zero i l = getD-replicate 24 i 0 0 l
+
+bottoms-many : length blankHeights ≡ 24
+unfolding blankHeights
+bottoms-many = refl
+
+module _ {c : List ℕ} {rows : List (List ℕ)} {heights z : List ℕ} (p : Piled c rows heights z)
+    (h : All Lettered z) where
+  pub piled-left : Left rows heights c blankHeights (reverse z)
+  piled-left = record {
+    room = record {
+      shape = p .shape;
+      many = bottoms-many;
+      low = λ i l. omega (arith, bottom-zero i l);
+      high = λ i l. beads-fit (piled-beads p i l);
+    };
+    letters = all-reverse Lettered z h;
+    beads = λ i l.
+        ap (λ n. slice n (getD heights i 0) (getD rows i [])) (bottom-zero i l)
+        ∙ p .stack i l ∙ stack-read (alphabet c) 0 (i + 1) z;
+  }
+
+  pub piled-readable : {conflicts : List (List ℕ)} (area : List ℕ) → Conflicts c conflicts → length z ≤ length area
+      → Readable c conflicts rows heights blankHeights (reverse z) area
+  piled-readable area t l = record { table = t; left = piled-left; fits = omega (arith, length-reverse z) }
