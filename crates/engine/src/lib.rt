@@ -19,7 +19,8 @@ pub fn normal_form(plan: &[u8], conflicts: &[[u16; 24]; 24], area: &mut [u8]) ->
     let mut rows = beads::blank_rows();
     let mut heights = beads::blank_heights();
     piling::pile(plan, conflicts, &mut rows, &mut heights);
-    reading::read_off(rows, heights, beads::blank_heights(), conflicts, area)
+    let bottoms = beads::blank_heights();
+    reading::read_off(rows, heights, bottoms, conflicts, area)
 }
 
 // Whether two plans have the same normal form. Their pilings are compared: nothing is read off.
