@@ -10,7 +10,7 @@ use mathlib.Core.List.{List, [], _∷_, _++_, List·Memᴰ·head, List·Memᴰ·
 use lib.ListN.{length, length-append}
 use lib.Dec.{eqb}
 use borrow.Author.Tests.{eqb-true, eq-eqb}
-use Rattle.words.specs.All.{All, all-append, all-left, all-right, all-pick, all-along}
+use Rattle.words.specs.All.{All, all-append}
 use Rattle.words.specs.Alphabet.{Alphabet, Word}
 use Rattle.words.specs.Trace as Trace
 use Rattle.words.specs.TraceLaws.{~-length}
@@ -19,13 +19,12 @@ use Rattle.words.specs.Group.{undo, conj, then, back}
 use Rattle.words.specs.GroupLaws.{~→≈, ≈-conj, ≈-conj-by, undo-length}
 use Rattle.words.specs.Normal.{nf}
 use Rattle.words.specs.NormalLaws.{nf-≈, nf-length}
-use Rattle.words.specs.Reduce.{reduce}
-use Rattle.words.specs.ReduceLaws.{Act, cut, put, acts, reduce-length}
+use Rattle.words.specs.ReduceLaws.{reduce-length}
 use Rattle.conjugacy.specs.Turn.{Turns}
 use Rattle.conjugacy.specs.TurnLaws.{turns-length}
 use Rattle.conjugacy.specs.FilterLaws.{filter-turns}
 use Rattle.conjugacy.specs.Core.{core, lead}
-use Rattle.conjugacy.specs.CoreLaws.{core-cores, cores-product, core-length}
+use Rattle.conjugacy.specs.CoreLaws.{core-length, core-all}
 use Rattle.conjugacy.specs.ConjugateLaws.{conjugate-cores, cores-conjugate}
 use Rattle.conjugacy.specs.Part.{commands, label, apexes, share, part}
 use Rattle.conjugacy.specs.RingLaws.{turns-rotated}
@@ -146,22 +145,6 @@ module _ (Γ : Alphabet) where
 
   -- the letters of reductions, cores and lead-ins
 
-  act-all : (P : Letter → Type 0) {a : Letter} {w r : Word Γ} → Act Γ a w r → P a → All P w → All P r
-  act-all P (cut p) h k = all-pick Γ P p k .1
-  act-all P (put n) h k = (h, k)
-
-  pub reduce-all : (P : Letter → Type 0) (w : Word Γ) → All P w → All P (reduce Γ w)
-  unfolding reduce
-  reduce-all P [] h = tt
-  reduce-all P (a ∷ w) h = act-all P (acts Γ a (reduce Γ w)) (h .0) (reduce-all P w (h .1))
-
-  pub core-all : (P : Letter → Type 0) (w : Word Γ) → All P w → All P (lead Γ w) × All P (core Γ w)
-  core-all P w h =
-      let g = lead Γ w in
-      let z = core Γ w in
-      let k = all-along Γ P (cores-product Γ (core-cores Γ w)) (reduce-all P w h) in
-      (all-left P g (z ++ undo Γ g []) k, all-left P z (undo Γ g []) (all-right P g (z ++ undo Γ g []) k))
-
   pub lead-in-all : (P : Letter → Type 0) → ((a : Letter) → P a → P (inv a)) → (v w : Word Γ) → joined? Γ v w ≡ true
       → All P v → All P w → All P (lead-in Γ v w)
   unfolding joined? lead-in
@@ -169,8 +152,8 @@ module _ (Γ : Alphabet) where
       let x = core Γ v in
       let y = core Γ w in
       let u = parts-lead Γ (apexes Γ x) x y in
-      let (g, i) = core-all P v h in
-      let (g′, i′) = core-all P w k in
+      let (g, i) = core-all Γ P v h in
+      let (g′, i′) = core-all Γ P w k in
       all-append P (lead Γ v) (u ++ undo Γ (lead Γ w) []) g
       (all-append P u (undo Γ (lead Γ w) [])
       (parts-lead-all Γ x y (cores-true x y t .0) P f i i′ (apexes Γ x) (λ j o. o))
@@ -190,7 +173,7 @@ module _ (Γ : Alphabet) where
       let u = parts-lead Γ (apexes Γ x) x y in
       let g = undo Γ (lead Γ w) [] in
       let (e, p) = cores-true x y t in
-      let o = core-all (λ a. (1 ≤ cmd a) × (cmd a ≤ n)) v h .1 in
+      let o = core-all Γ (λ a. (1 ≤ cmd a) × (cmd a ≤ n)) v h .1 in
       let b = parts-lead-length Γ x y e n (all-occurs Γ (λ j. (1 ≤ j) × (j ≤ n)) x o) (apexes Γ x) (λ j i. i) p in
       let c : length u + length x ≤ (2 * n) * length x =
       subst (λ l. length u + l ≤ (2 * n) * l) (sym (~-length Γ (apexes-~ Γ x))) b in

@@ -9,10 +9,10 @@ use lib.ListN.{length, getD, take, length-reverse, length-take}
 use lib.Seq.{take-suc, take-all}
 use lib.Dec.{eqb}
 use borrow.Author.Tests.{eqb-false, eq-eqb, ne-eqb}
-use Rattle.words.specs.All.{All, all-pick, all-reverse}
-use Rattle.words.specs.Alphabet.{Alphabet, Word}
+use Rattle.words.specs.All.{All, all-reverse}
 use Rattle.words.specs.Reduce.{act, reduce}
-use Rattle.words.specs.ReduceLaws.{Act, cut, put, acts, reduce-least}
+use Rattle.words.specs.ReduceLaws.{reduce-least}
+use Rattle.words.specs.LetterLaws.{all-reduce}
 use Rattle.words.specs.GroupLaws.{≈-refl}
 use Rattle.words.specs.Stack.{NoBlank}
 use Rattle.catalogue.specs.Catalogue.{commands}
@@ -24,17 +24,6 @@ use Rattle.plan.specs.LettersLaws.{letters-append, letters-filler, letters-lett
 use Rattle.piling.specs.Piling.{Piled}
 use Rattle.piling.specs.Push.{Ready}
 use Rattle.piling.specs.Pile.{Given, reduced}
-
--- reduction keeps what holds of every letter
-module _ (Γ : Alphabet) (P : Γ .Letter → Type 0) where
-  act-all : {a : Γ .Letter} {w r : Word Γ} → Act Γ a w r → P a → All P w → All P r
-  act-all (cut p) h k = all-pick Γ P p k .1
-  act-all (put n) h k = (h, k)
-
-  reduce-all : (w : Word Γ) → All P w → All P (reduce Γ w)
-  unfolding reduce
-  reduce-all [] h = tt
-  reduce-all (a ∷ w) h = act-all (acts Γ a (reduce Γ w)) (h .0) (reduce-all w (h .1))
 
 -- the letters of a plan are no fillers
 abbrev Filled : List ℕ → Type 0
@@ -52,7 +41,7 @@ letters-filled (b ∷ v) = go (eqb b 0) refl (letters-filled v)
 reduced-filled : (c v : List ℕ) → NoBlank (alphabet c) 0 (reduced c v)
 reduced-filled c v =
     let f : Filled (reverse (letters v)) = all-reverse (λ b. ¬ (b ≡ 0)) (letters v) (letters-filled v) in
-    reduce-all (alphabet c) (λ b. ¬ (b ≡ 0)) (reverse (letters v)) f
+    all-reduce (alphabet c) (λ b. ¬ (b ≡ 0)) (reverse (letters v)) f
 
 reduced-length : (c v : List ℕ) → length (reduced c v) ≤ length v
 reduced-length c v =

@@ -3,7 +3,7 @@ use Prim.Native.Nat.{ℕ, _≤_}
 use mathlib.Core.Path.{_≡_, refl, sym, _∙_, ap, subst, subst₂}
 use mathlib.Core.Bool.{Bool, true, false, not}
 use mathlib.Core.List.{List, [], _∷_, _++_}
-use mathlib.Core.Logic.{_↔_, _⊎_, inl, inr}
+use mathlib.Core.Logic.{_↔_}
 use native.Mathlib.Omega.{arith}
 use borrow.Author.Tests.{eqb-true}
 use Rattle.words.specs.All.{all-append, all-right}
@@ -35,11 +35,8 @@ use Rattle.plan.specs.StepLaws.{
   kept-equal,
   kept-passing,
 }
+use Rattle.plan.specs.NormalFormLaws.{case}
 use Rattle.plan.specs.Join.{Joins}
-
-case : {A B C : Type 0} → A ⊎ B → (A → C) → (B → C) → C
-case (inl a) f g = f a
-case (inr b) f g = g b
 
 module _ (c : List ℕ) where
   infix 20 _≈_

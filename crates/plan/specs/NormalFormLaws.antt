@@ -30,7 +30,7 @@ use Rattle.plan.specs.StepLaws.{equal-exact, equal-words, equal-right}
 use Rattle.plan.specs.Order.{Earlier}
 use Rattle.plan.specs.OrderLaws.{smaller-earlier}
 
-case : {A B C : Type 0} → A ⊎ B → (A → C) → (B → C) → C
+pub case : {A B C : Type 0} → A ⊎ B → (A → C) → (B → C) → C
 case (inl a) f g = f a
 case (inr b) f g = g b
 
