@@ -5,7 +5,7 @@
 ghost use mathlib.Core.Path.{_≡_};
 ghost use Rattle.refusal.specs.Line.{line, toldChecked, lineOf};
 ghost use Rattle.calls.specs.Answers.{toldWritten, toldEquality};
-ghost use Rattle.calls.specs.Calls.{normalFormAnswer, normalFormArea, equalAnswer};
+ghost use Rattle.calls.specs.Calls.{normalFormAnswer, normalFormArea, coreAnswer, coreArea, equalAnswer};
 ghost use Rattle.busplan.specs.Outcome.{SameRefusal};
 use calls::Equality;
 use calls::Written;
@@ -60,6 +60,24 @@ pub fn normal_form(catalogue: &[u8], plan: &[u8], area: &mut [u8]) -> Written
         return Written::Refused(small_area(0));
     }
     Written::Length(engine::normal_form(plan, &conflicts, area))
+}
+
+// The core of plan, in normal form, written at the start of area.
+pub fn core(catalogue: &[u8], plan: &[u8], area: &mut [u8]) -> Written
+    ensures answer { λ r. ⌜ toldWritten r
+        ≡ coreAnswer (now (catalogue .entry)) (now (plan .entry)) (now (area .entry)) ⌝ }
+    ensures bytes { λ r. ⌜ now (area .exit)
+        ≡ coreArea (now (catalogue .entry)) (now (plan .entry)) (now (area .entry)) ⌝ }
+{
+    let mut conflicts = chains::blank();
+    let checked = entry::one_plan(catalogue, plan, &mut conflicts);
+    let Checked::Passed(_) = checked else {
+        return not_written(checked);
+    };
+    if area.len() < plan.len() {
+        return Written::Refused(small_area(0));
+    }
+    Written::Length(coring::core(plan, &conflicts, area))
 }
 
 // Whether two plans have the same effect.

@@ -1,0 +1,2 @@
+pub mod Coring
+pub mod CoringLaws
