@@ -1,0 +1,49 @@
+-- What the split of a word in one scan asks and gives.
+use Prim.Native.Nat.{ℕ, _+_, _-_, _<_, _≤_}
+use mathlib.Core.Path.{_≡_}
+use mathlib.Core.Logic.{_⊎_}
+use mathlib.Core.List.{List, [], _++_}
+use lib.ListN.{length, drop, set}
+use Rattle.words.specs.All.{All}
+use Rattle.catalogue.specs.Conflict.{Conflicts}
+use Rattle.plan.specs.Byte.{commandOf}
+use Rattle.plan.specs.Lettered.{Lettered}
+use Rattle.plan.specs.Letters.{alphabet}
+use Rattle.conjugacy.specs.Settle.{split}
+use Rattle.settle.specs.declared.Halves.{Halves}
+use Rattle.settle.specs.Flags.{Flags, Clear}
+
+-- a letter, its line of conflicts, the set of raised commands, and room for one more letter in both halves
+pub record Place (letter : ℕ) (line raised low high : List ℕ) (ends : Halves) : Type 0 where
+  pub lettered : Lettered letter
+  pub lines : Flags line
+  pub set : Flags raised
+  pub lower : ends .low < length low
+  pub upper : ends .high < length high
+
+-- the letter is put in the lower half, or in the upper one and its command in the set
+pub data Placed (letter apex : ℕ) (line raised low high : List ℕ) (ends : Halves)
+    : List ℕ → List ℕ → List ℕ → Halves → Type 0 where
+  below : (commandOf letter ≡ apex → ⊥) → Clear line raised
+      → Placed letter apex line raised low high ends raised (set low (ends .low) letter) high
+      (record { low = ends .low + 1; high = ends .high })
+  above : (commandOf letter ≡ apex) ⊎ (Clear line raised → ⊥)
+      → Placed letter apex line raised low high ends (set raised (commandOf letter - 1) 1) low
+      (set high (ends .high) letter) (record { low = ends .low; high = ends .high + 1 })
+
+-- a word of letters, the conflicts of catalogue c, and room for the word in both halves
+pub record Splittable (c word : List ℕ) (conflicts : List (List ℕ)) (low high : List ℕ) : Type 0 where
+  pub letters : All Lettered word
+  pub table : Conflicts c conflicts
+  pub lower : length word ≤ length low
+  pub upper : length word ≤ length high
+
+-- new is old with its first n bytes replaced by p
+pub record Over (p : List ℕ) (n : ℕ) (old new : List ℕ) : Type 0 where
+  pub many : length p ≡ n
+  pub holds : new ≡ p ++ drop n old
+
+-- the halves of the word are in low and high, and past them these are as they were
+pub record Halved (c : List ℕ) (apex : ℕ) (word low high low′ high′ : List ℕ) (r : Halves) : Type 0 where
+  pub lower : Over (split (alphabet c) apex [] word .0) (r .low) low low′
+  pub upper : Over (split (alphabet c) apex [] word .1) (r .high) high high′

@@ -1,0 +1,6 @@
+pub mod Flags
+pub mod FlagsLaws
+pub mod Halving
+pub mod HalvingLaws
+pub mod Settling
+pub mod SettlingLaws
