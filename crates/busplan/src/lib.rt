@@ -6,7 +6,7 @@ ghost use mathlib.Core.Path.{_≡_};
 ghost use Rattle.refusal.specs.Line.{line, toldChecked, lineOf};
 ghost use Rattle.calls.specs.Answers.{toldWritten, toldEquality};
 ghost use Rattle.calls.specs.Calls.{normalFormAnswer, normalFormArea, coreAnswer, coreArea, equalAnswer};
-ghost use Rattle.busplan.specs.Outcome.{SameRefusal};
+ghost use Rattle.busplan.specs.Outcome.{SameRefusal, form, WrittenForm};
 use calls::Equality;
 use calls::Written;
 use refusal::Checked;
@@ -44,12 +44,10 @@ fn not_compared(checked: Checked) -> Equality
     }
 }
 
-// The normal form of plan, written at the start of area.
-pub fn normal_form(catalogue: &[u8], plan: &[u8], area: &mut [u8]) -> Written
-    ensures answer { λ r. ⌜ toldWritten r
-        ≡ normalFormAnswer (now (catalogue .entry)) (now (plan .entry)) (now (area .entry)) ⌝ }
-    ensures bytes { λ r. ⌜ now (area .exit)
-        ≡ normalFormArea (now (catalogue .entry)) (now (plan .entry)) (now (area .entry)) ⌝ }
+// The normal form of plan, or of its core, written at the start of area.
+fn write_form(catalogue: &[u8], plan: &[u8], area: &mut [u8], cored: bool) -> Written
+    ensures { λ r. ⌜ WrittenForm (form cored) (now (catalogue .entry)) (now (plan .entry)) (now (area .entry))
+        (toldWritten r) (now (area .exit)) ⌝ }
 {
     let mut conflicts = chains::blank();
     let checked = entry::one_plan(catalogue, plan, &mut conflicts);
@@ -59,7 +57,20 @@ pub fn normal_form(catalogue: &[u8], plan: &[u8], area: &mut [u8]) -> Written
     if area.len() < plan.len() {
         return Written::Refused(small_area(0));
     }
+    if cored {
+        return Written::Length(coring::core(plan, &conflicts, area));
+    }
     Written::Length(engine::normal_form(plan, &conflicts, area))
+}
+
+// The normal form of plan, written at the start of area.
+pub fn normal_form(catalogue: &[u8], plan: &[u8], area: &mut [u8]) -> Written
+    ensures answer { λ r. ⌜ toldWritten r
+        ≡ normalFormAnswer (now (catalogue .entry)) (now (plan .entry)) (now (area .entry)) ⌝ }
+    ensures bytes { λ r. ⌜ now (area .exit)
+        ≡ normalFormArea (now (catalogue .entry)) (now (plan .entry)) (now (area .entry)) ⌝ }
+{
+    write_form(catalogue, plan, area, false)
 }
 
 // The core of plan, in normal form, written at the start of area.
@@ -69,15 +80,7 @@ pub fn core(catalogue: &[u8], plan: &[u8], area: &mut [u8]) -> Written
     ensures bytes { λ r. ⌜ now (area .exit)
         ≡ coreArea (now (catalogue .entry)) (now (plan .entry)) (now (area .entry)) ⌝ }
 {
-    let mut conflicts = chains::blank();
-    let checked = entry::one_plan(catalogue, plan, &mut conflicts);
-    let Checked::Passed(_) = checked else {
-        return not_written(checked);
-    };
-    if area.len() < plan.len() {
-        return Written::Refused(small_area(0));
-    }
-    Written::Length(coring::core(plan, &conflicts, area))
+    write_form(catalogue, plan, area, true)
 }
 
 // Whether two plans have the same effect.
