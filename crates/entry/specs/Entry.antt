@@ -1,19 +1,25 @@
 -- What the checks before a call promise: the answer that the lines give, and what holds where none of them refuses.
-use Prim.Native.Nat.{ℕ}
+use Prim.Native.Nat.{ℕ, _≤_}
 use mathlib.Core.Path.{_≡_}
 use mathlib.Core.List.{List, _++_}
 use mathlib.Core.Option.{Option, none}
+use lib.ListN.{length}
 use Rattle.refusal.specs.Line.{Line, toldChecked, firstLine, orElse}
 use Rattle.refusal.specs.declared.Checked.{Checked}
 use Rattle.catalogue.specs.Catalogue.{commands, catalogueLines}
-use Rattle.plan.specs.Plan.{planLines}
+use Rattle.plan.specs.Plan.{planLines, Passing}
 use Rattle.engine.specs.Passed.{Passed}
 use Rattle.calls.specs.Calls.{planLimit}
+use Rattle.calls.specs.Loops.{leadInLimit}
 
 -- the answer r is refused by the first of these lines that holds; where none does it carries the number of commands of
--- catalogue c, and P holds
+-- catalogue c
+pub record Told (c : List ℕ) (ls : List (Option Line)) (r : Checked) : Type 0 where
+  pub is : toldChecked r ≡ orElse (firstLine ls) (commands c)
+
+-- and then P holds
 pub record Entered (c : List ℕ) (ls : List (Option Line)) (P : Type 0) (r : Checked) : Type 0 where
-  pub told : toldChecked r ≡ orElse (firstLine ls) (commands c)
+  pub told : Told c ls r
   pub passed : firstLine ls ≡ none → P
 
 -- lines 1 to 8 for the first plan, and for both
@@ -28,3 +34,13 @@ OnePlan c v rows = Entered c (oneLines c v) (Passed c rows v)
 
 abbrev pub TwoPlans : List ℕ → List ℕ → List ℕ → List (List ℕ) → Checked → Type 0
 TwoPlans c v w rows = Entered c (twoLines c v w) (Passed c rows v × Passed c rows w)
+
+-- a lead-in that passes lines 7 and 8
+abbrev pub PassedLeadIn : List ℕ → List ℕ → Type 0
+PassedLeadIn c u = (length u ≤ leadInLimit) × Passing (commands c) u
+
+abbrev pub threeLines : List ℕ → List ℕ → List ℕ → List ℕ → List (Option Line)
+threeLines c v w u = twoLines c v w ++ planLines 3 leadInLimit (commands c) u
+
+abbrev pub ThreePlans : List ℕ → List ℕ → List ℕ → List ℕ → List (List ℕ) → Checked → Type 0
+ThreePlans c v w u rows = Entered c (threeLines c v w u) ((Passed c rows v × Passed c rows w) × PassedLeadIn c u)

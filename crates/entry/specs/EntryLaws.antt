@@ -6,20 +6,28 @@ use mathlib.Core.Option.{Option, none, some}
 use native.Mathlib.Omega.{arith}
 use lib.ListN.{length}
 use Rattle.refusal.specs.Line.{Line, given, firstLine, orElse, toldChecked, lineOf}
-use Rattle.refusal.specs.LineLaws.{first-early, first-late}
+use Rattle.refusal.specs.LineLaws.{first-early, first-late, none-left, none-right}
 use Rattle.refusal.specs.SearchLaws.{passed-line, refused-line}
 use Rattle.refusal.specs.declared.Refusal.{Refusal}
 use Rattle.refusal.specs.declared.Checked.{Checked}
 use Rattle.refusal.specs.declared.Checked.the-variants.{Passed, Refused}
 use Rattle.catalogue.specs.Catalogue.{commands, catalogueLines}
-use Rattle.catalogue.specs.Conflict.{Conflicts}
 use Rattle.chains.specs.Reading.{Reading}
 use Rattle.plan.specs.Plan.{planLines, Passing}
 use Rattle.plan.specs.PlanLaws.{lines-pass}
-use Rattle.engine.specs.Passed as engine
 use Rattle.calls.specs.Calls.{planLimit}
 use Rattle.calls.specs.CallLaws.{few-commands}
-use Rattle.entry.specs.Entry.{Entered, OnePlan, TwoPlans, oneLines, twoLines}
+use Rattle.calls.specs.Loops.{leadInLimit}
+use Rattle.entry.specs.Entry.{
+  Told,
+  Entered,
+  OnePlan,
+  TwoPlans,
+  ThreePlans,
+  oneLines,
+  twoLines,
+  threeLines,
+}
 
 -- a check whose told answer is known
 module _ (r : Checked) (o : Option Line) (a : ℕ) (t : toldChecked r ≡ orElse o a) where
@@ -34,61 +42,88 @@ module _ (r : Checked) (o : Option Line) (a : ℕ) (t : toldChecked r ≡ orElse
   check-some : {f : Refusal} → r ≡ Refused f → o ≡ some (lineOf f)
   check-some e = refused-line o a (sym (ap toldChecked e) ∙ t)
 
--- the catalogue is the first check
-pub reading-entered : {c : List ℕ} {rows : List (List ℕ)} {r : Checked} → Reading c rows r
-    → Entered c (catalogueLines c) (Conflicts c rows) r
-reading-entered d = record { told = d .answer; passed = d .conflicts }
+-- where the checks before are told
+module _ {c : List ℕ} {ls : List (Option Line)} {r : Checked} (d : Told c ls r) where
+  pub told-none : {n : ℕ} → r ≡ Passed n → firstLine ls ≡ none
+  told-none e = check-none r (firstLine ls) (commands c) (d .is) e
 
-module _ {c : List ℕ} {ls : List (Option Line)} {P : Type 0} {r : Checked} (d : Entered c ls P r) where
-  pub entered-none : {n : ℕ} → r ≡ Passed n → firstLine ls ≡ none
-  entered-none e = check-none r (firstLine ls) (commands c) (d .told) e
+  told-commands : {n : ℕ} → r ≡ Passed n → n ≡ commands c
+  told-commands e = check-value r (firstLine ls) (commands c) (d .is) e
 
-  pub entered-commands : {n : ℕ} → r ≡ Passed n → n ≡ commands c
-  entered-commands e = check-value r (firstLine ls) (commands c) (d .told) e
-
-  pub entered-some : {f : Refusal} → r ≡ Refused f → firstLine ls ≡ some (lineOf f)
-  entered-some e = check-some r (firstLine ls) (commands c) (d .told) e
-
-  refuses : (ks : List (Option Line)) (Q : Type 0) {s : Checked} {f : Refusal} → firstLine ks ≡ some (lineOf f)
-      → s ≡ Refused f → Entered c ks Q s
-  refuses ks Q e h =
-      record { told = rw e (ap toldChecked h); passed = λ k. absurd (some-none (sym e ∙ k)) }
-    where
-      some-none : {l : Line} → some l ≡ none → ⊥
-      some-none z = let y : _≡_ {A = ℕ} 0 1 = cc in omega arith
+  pub told-some : {f : Refusal} → r ≡ Refused f → firstLine ls ≡ some (lineOf f)
+  told-some e = check-some r (firstLine ls) (commands c) (d .is) e
 
   -- a refusal stays one when further checks follow
-  pub then-more : (ks : List (Option Line)) (Q : Type 0) {f : Refusal} → r ≡ Refused f → Entered c (ls ++ ks) Q r
-  then-more ks Q e = refuses (ls ++ ks) Q (first-early ls ks (entered-some e)) e
+  pub then-more : (ks : List (Option Line)) {f : Refusal} → r ≡ Refused f → Told c (ls ++ ks) r
+  then-more ks e = record { is = rw (first-early ls ks (told-some e)) (ap toldChecked e) }
 
   -- the check of plan v, of number p, is next
   module _ (p limit : ℕ) (v : List ℕ) {n : ℕ} (e : r ≡ Passed n) (s : Checked)
       (t : toldChecked s ≡ orElse (firstLine (planLines p limit n v)) (length v)) where
     told-here : toldChecked s ≡ orElse (firstLine (planLines p limit (commands c) v)) (length v)
-    told-here =
-        subst (λ k. toldChecked s ≡ orElse (firstLine (planLines p limit k v)) (length v)) (entered-commands e) t
+    told-here = subst (λ k. toldChecked s ≡ orElse (firstLine (planLines p limit k v)) (length v)) (told-commands e) t
 
-    pub then-refused : (Q : Type 0) {f : Refusal} → s ≡ Refused f → Entered c (ls ++ planLines p limit (commands c) v) Q s
-    then-refused Q h =
+    late : firstLine (ls ++ planLines p limit (commands c) v) ≡ firstLine (planLines p limit (commands c) v)
+    late = first-late ls (planLines p limit (commands c) v) (told-none e)
+
+    pub then-refused : {f : Refusal} → s ≡ Refused f → Told c (ls ++ planLines p limit (commands c) v) s
+    then-refused h =
         let k = check-some s (firstLine (planLines p limit (commands c) v)) (length v) told-here h in
-        refuses (ls ++ planLines p limit (commands c) v) Q (first-late ls (planLines p limit (commands c) v) (entered-none e) ∙ k) h
+        record { is = rw (late ∙ k) (ap toldChecked h) }
 
-    pub then-passed : {Q : Type 0} {m : ℕ} → s ≡ Passed m → (P → (length v ≤ limit) × Passing (commands c) v → Q)
-        → Entered c (ls ++ planLines p limit (commands c) v) Q (Passed n)
-    then-passed {Q} h f =
+    pub then-passed : {m : ℕ} → s ≡ Passed m → Told c (ls ++ planLines p limit (commands c) v) (Passed n)
+    then-passed h =
         let k = check-none s (firstLine (planLines p limit (commands c) v)) (length v) told-here h in
-        let l = first-late ls (planLines p limit (commands c) v) (entered-none e) ∙ k in
-        record {
-          told = rw l (ap given (entered-commands e));
-          passed = λ z. f (d .passed (entered-none e)) (lines-pass p limit (commands c) v .0 k);
-        }
+        record { is = rw (late ∙ k) (ap given (told-commands e)) }
 
--- the first plan and the second
+-- a plan that passes its lines, where the lines before it do
+module _ (c : List ℕ) where
+  pub more-passes : (ls : List (Option Line)) (p limit : ℕ) (v : List ℕ)
+      → firstLine (ls ++ planLines p limit (commands c) v) ≡ none → (length v ≤ limit) × Passing (commands c) v
+  more-passes ls p limit v e =
+      lines-pass p limit (commands c) v .0 (none-right ls (planLines p limit (commands c) v) e)
+
 module _ {c : List ℕ} {rows : List (List ℕ)} where
-  pub first-passed : {v : List ℕ} → firstLine (catalogueLines c) ≡ none → Conflicts c rows
-      → (length v ≤ planLimit) × Passing (commands c) v → engine.Passed c rows v
-  first-passed e t h = record { few = few-commands c e; table = t; passing = h .1; short = h .0 }
+  pub first-entered : {s r : Checked} (v : List ℕ) → Reading c rows s → (Told c (catalogueLines c) s → Told c (oneLines c v) r)
+      → OnePlan c v rows r
+  first-entered v d f =
+      record {
+        told = f (record { is = d .answer });
+        passed = λ e.
+            let k = none-left (catalogueLines c) (planLines 1 planLimit (commands c) v) e in
+            let h = more-passes c (catalogueLines c) 1 planLimit v e in
+            record { few = few-commands c k; table = d .conflicts k; passing = h .1; short = h .0 };
+      }
 
-  pub second-passed : {v w : List ℕ} → engine.Passed c rows v → (length w ≤ planLimit) × Passing (commands c) w
-      → engine.Passed c rows v × engine.Passed c rows w
-  second-passed q h = (q, record { few = q .few; table = q .table; passing = h .1; short = h .0 })
+  pub second-entered : {s r : Checked} {v : List ℕ} (w : List ℕ) → OnePlan c v rows s
+      → (Told c (oneLines c v) s → Told c (twoLines c v w) r) → TwoPlans c v w rows r
+  second-entered {v = v} w d f =
+      record {
+        told = f (d .told);
+        passed = λ e.
+            let q = d .passed (none-left (oneLines c v) (planLines 2 planLimit (commands c) w) e) in
+            let h = more-passes c (oneLines c v) 2 planLimit w e in
+            (q, record { few = q .few; table = q .table; passing = h .1; short = h .0 });
+      }
+
+  pub third-entered : {s r : Checked} {v w : List ℕ} (u : List ℕ) → TwoPlans c v w rows s
+      → (Told c (twoLines c v w) s → Told c (threeLines c v w u) r) → ThreePlans c v w u rows r
+  third-entered {v = v} {w = w} u d f =
+      record {
+        told = f (d .told);
+        passed = λ e. (
+          d .passed (none-left (twoLines c v w) (planLines 3 leadInLimit (commands c) u) e),
+          more-passes c (twoLines c v w) 3 leadInLimit u e,
+        );
+      }
+
+-- for callers: what an answer tells of the lines
+module _ {c : List ℕ} {ls : List (Option Line)} {P : Type 0} {r : Checked} (d : Entered c ls P r) where
+  pub entered-none : {n : ℕ} → r ≡ Passed n → firstLine ls ≡ none
+  entered-none e = told-none (d .told) e
+
+  pub entered-commands : {n : ℕ} → r ≡ Passed n → n ≡ commands c
+  entered-commands e = told-commands (d .told) e
+
+  pub entered-some : {f : Refusal} → r ≡ Refused f → firstLine ls ≡ some (lineOf f)
+  entered-some e = told-some (d .told) e

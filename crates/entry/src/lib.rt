@@ -1,24 +1,38 @@
 // The checks that every call goes through first: the catalogue, then its plans in their order. Passed carries the number of
 // commands, and then the rows hold the conflicts.
 
+ghost use Prim.Native.Nat.{ℕ};
+ghost use mathlib.Core.List.{List, _++_};
+ghost use mathlib.Core.Option.{Option};
+ghost use Rattle.refusal.specs.Line.{Line};
+ghost use Rattle.catalogue.specs.Catalogue.{commands};
+ghost use Rattle.plan.specs.Plan.{planLines};
 ghost use Rattle.chains.specs.Marks.{Blank};
-ghost use Rattle.entry.specs.Entry.{OnePlan, TwoPlans};
+ghost use Rattle.entry.specs.Entry.{Told, OnePlan, TwoPlans, ThreePlans};
 use refusal::Checked;
+
+// One more plan, of this number and of at most so many bytes, after the checks before it. A refusal of any of them is
+// passed on untouched.
+fn next_plan(earlier: Checked, plan: &[u8], number: u8, limit: usize) -> Checked
+    ensures { λ r. ⌜ ((c : List ℕ) (ls : List (Option Line)) → Told c ls earlier
+        → Told c (ls ++ planLines number limit (commands c) (now (plan .entry))) r) ⌝ }
+{
+    let Checked::Passed(commands) = earlier else {
+        return earlier;
+    };
+    let checked = plan::check(plan, commands, number, limit);
+    let Checked::Passed(_) = checked else {
+        return checked;
+    };
+    earlier
+}
 
 // Lines 1 to 8 for one plan.
 pub fn one_plan(catalogue: &[u8], plan: &[u8], conflicts: &mut [[u16; 24]; 24]) -> Checked
     requires { ⌜ Blank (now conflicts) ⌝ }
     ensures { λ r. ⌜ OnePlan (now (catalogue .entry)) (now (plan .entry)) (now (conflicts .exit)) r ⌝ }
 {
-    let read = chains::read(catalogue, conflicts);
-    let Checked::Passed(commands) = read else {
-        return read;
-    };
-    let checked = plan::check(plan, commands, 1, 1024);
-    let Checked::Passed(_) = checked else {
-        return checked;
-    };
-    Checked::Passed(commands)
+    next_plan(chains::read(catalogue, conflicts), plan, 1, 1024)
 }
 
 // Lines 1 to 8 for two plans, the first before the second.
@@ -26,13 +40,20 @@ pub fn two_plans(catalogue: &[u8], v: &[u8], w: &[u8], conflicts: &mut [[u16; 24
     requires { ⌜ Blank (now conflicts) ⌝ }
     ensures { λ r. ⌜ TwoPlans (now (catalogue .entry)) (now (v .entry)) (now (w .entry)) (now (conflicts .exit)) r ⌝ }
 {
-    let first = one_plan(catalogue, v, conflicts);
-    let Checked::Passed(commands) = first else {
-        return first;
-    };
-    let second = plan::check(w, commands, 2, 1024);
-    let Checked::Passed(_) = second else {
-        return second;
-    };
-    Checked::Passed(commands)
+    next_plan(one_plan(catalogue, v, conflicts), w, 2, 1024)
+}
+
+// Lines 1 to 8 for two plans and a lead-in.
+pub fn three_plans(
+    catalogue: &[u8],
+    v: &[u8],
+    w: &[u8],
+    u: &[u8],
+    conflicts: &mut [[u16; 24]; 24],
+) -> Checked
+    requires { ⌜ Blank (now conflicts) ⌝ }
+    ensures { λ r. ⌜ ThreePlans (now (catalogue .entry)) (now (v .entry)) (now (w .entry)) (now (u .entry))
+        (now (conflicts .exit)) r ⌝ }
+{
+    next_plan(two_plans(catalogue, v, w, conflicts), u, 3, 49152)
 }
