@@ -7,6 +7,9 @@ ghost use Rattle.refusal.specs.Line.{line, toldChecked, lineOf};
 ghost use Rattle.calls.specs.Answers.{toldWritten, toldEquality};
 ghost use Rattle.calls.specs.Calls.{normalFormAnswer, normalFormArea, coreAnswer, coreArea, equalAnswer};
 ghost use Rattle.busplan.specs.Outcome.{SameRefusal, form, WrittenForm};
+
+mod console;
+
 use calls::Equality;
 use calls::Written;
 use refusal::Checked;

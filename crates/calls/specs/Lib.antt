@@ -5,3 +5,5 @@ pub mod CallLaws
 pub mod Demands
 pub mod Loops
 pub mod LoopLaws
+pub mod Codes
+pub mod CodeLaws

@@ -11,7 +11,8 @@ use lib.Dec.{eqb}
 use lib.ListN.{length}
 use Rattle.words.specs.Group.{_≈_, back, then}
 use Rattle.words.specs.Normal.{nf, Smaller}
-use Rattle.words.specs.NormalLaws.{nf-≈, nf-complete, nf-sound, nf-least, nf-first}
+use Rattle.words.specs.NormalLaws.{nf-≈, nf-complete, nf-sound, nf-length, nf-least, nf-first}
+use Rattle.words.specs.ReduceLaws.{reduce-length}
 use Rattle.words.specs.LetterLaws.{all-nf}
 use Rattle.catalogue.specs.Catalogue.{commands}
 use Rattle.plan.specs.Plan.{isCommand, Passing}
@@ -45,6 +46,12 @@ letters-full (b ∷ v) e = go (eqb b 0) refl (letters-full v)
     go false z f = letters-letter b v z ∙ ap (λ x. b ∷ x) (f (omega (arith, ap length (sym (letters-letter b v z)) ∙ e)))
 
 module _ (c : List ℕ) where
+  pub normal-length : (v : List ℕ) → length (normalForm c v) ≤ length v
+  unfolding normalForm
+  normal-length v =
+      let g = alphabet c in
+      omega (arith, nf-length g (letters v), reduce-length g (letters v), letters-length v)
+
   pub normal-commands : (v : List ℕ) → Passing (commands c) v → Commands (commands c) (normalForm c v)
   unfolding normalForm
   normal-commands v h =

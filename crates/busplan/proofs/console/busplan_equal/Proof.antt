@@ -1,0 +1,23 @@
+-- `busplan_equal` meets its contract.
+use mathlib.Core.Path.{_∙_, ap}
+use mir.Syntax.{w64}
+use mir.ValLaws.{toZ-ofZ}
+use Rattle.calls.specs.Codes.{equalCode}
+use borrow.Author.Needs.{needs}
+use Rattle.busplan.proofs.console.busplan_equal.Statement.{statement}
+use Rattle.busplan.proofs.console.busplan_equal.Tie as tie
+
+equal-requires : tie.Need-equal-requires
+equal-requires c κs = search needs
+
+equal-code-requires : tie.Need-equal-code-requires
+equal-code-requires c κs = search needs
+
+returns : tie.Need-returns
+returns c =
+    toZ-ofZ w64 (c .equal-code .result) (record { sfits = c .equal-code .ok })
+    ∙ c .equal-code .ensures
+    ∙ ap equalCode (c .before .equal .ensures)
+
+pub busplan-equal-spec : {M : Type 1} → statement M
+busplan-equal-spec = tie.close (tie.spec equal-requires equal-code-requires returns)

@@ -1,0 +1,37 @@
+-- `busplan_normal_form` meets its contract: the length is at most that of the plan, so it fits.
+use mathlib.Core.Path.{_∙_, ap}
+use native.Mathlib.Omega.{arith}
+use mir.Syntax.{w64}
+use mir.ValLaws.{toZ-ofZ}
+use Rattle.calls.specs.Codes.{lengthCode}
+use Rattle.calls.specs.CodeLaws.{written-length}
+use borrow.Author.Needs.{needs}
+use Rattle.busplan.proofs.console.busplan_normal_form.Statement.{statement}
+use Rattle.busplan.proofs.console.busplan_normal_form.Tie as tie
+
+normal-form-requires : tie.Need-normal-form-requires
+normal-form-requires c κs = search needs
+
+length-code-requires : tie.Need-length-code-requires
+length-code-requires c κs = λ l e.
+    let f = c .before .before in
+    let s = f .before .before .before .before .before in
+    let a = s .args in
+    let h = written-length (a .catalogue .now) (a .plan .now) (a .area .now) l (f .normal-form .ensures .0) e in
+    omega (arith, h, s .good .1 .0 .1)
+
+same-length : tie.Need-same-length
+same-length c = search needs
+
+returns : tie.Need-returns
+returns c =
+    let f = c .before .before .before in (
+      toZ-ofZ w64 (c .length-code .result) (record { sfits = c .length-code .ok })
+          ∙ c .length-code .ensures
+          ∙ ap lengthCode (f .normal-form .ensures .0),
+      f .normal-form .ensures .1,
+    )
+
+pub busplan-normal-form-spec : {M : Type 1} → statement M
+busplan-normal-form-spec =
+    tie.close (tie.spec normal-form-requires length-code-requires same-length returns)

@@ -1,0 +1,32 @@
+-- What the console gets for each answer: a length, or yes (1) or no (0); for loops the lead-in's length plus 1, or 0 for
+-- apart; and minus the refusal number.
+use Prim.Native.Nat.{ℕ, suc}
+use mathlib.Core.Bool.{Bool, true, false}
+use mathlib.Core.Option.{Option, none, some}
+use lib.IntN.{ℤ, pos, negℤ}
+use Rattle.refusal.specs.Line.{Answer, refused, given}
+use Rattle.calls.specs.Answers.{Checked}
+
+abbrev pub code : {A : Type 0} → (A → ℕ) → Answer A → ℤ
+code f (given a) = pos (f a)
+code f (refused l) = negℤ (pos (l .number))
+
+abbrev pub yesNo : Bool → ℕ
+yesNo true = 1
+yesNo false = 0
+
+abbrev pub leadInCode : Option ℕ → ℕ
+leadInCode none = 0
+leadInCode (some l) = suc l
+
+abbrev pub lengthCode : Answer ℕ → ℤ
+lengthCode = code (λ l. l)
+
+abbrev pub equalCode : Answer Bool → ℤ
+equalCode = code yesNo
+
+abbrev pub loopsCode : Answer (Option ℕ) → ℤ
+loopsCode = code leadInCode
+
+abbrev pub checkCode : Answer Checked → ℤ
+checkCode = code (λ k. yesNo (k .yes))

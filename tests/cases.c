@@ -1,0 +1,242 @@
+/* The bench cases of document 01, its edges and its slips, as a table with the answers that it gives. Every row is put
+ * to the library and to the solver, once with empty slices as null pointers and once not. */
+#include "calls.h"
+#include "guarded.h"
+
+#include <inttypes.h>
+#include <stdio.h>
+#include <stdlib.h>
+#include <string.h>
+
+/* What a row may say of an area: as large as stated, or one byte less, or a number of bytes. */
+enum { EXACT = -1, ONE_LESS = -2 };
+
+/* The answer of a row whose loops are joined: some lead-in, which is then checked. */
+enum { JOINED = 1000000 };
+
+struct row {
+    const char *name;
+    enum call call;
+    struct slice catalogue, plan[3];
+    int area[2];
+    int64_t answer;
+    struct slice written[2];
+};
+
+#define U(k) (128 + (k))
+#define P(...) {(const uint8_t[]){__VA_ARGS__}, sizeof (const uint8_t[]){__VA_ARGS__}}
+#define NONE {NULL, 0}
+#define NORMAL(name, catalogue, plan, area, answer, written) \
+    {name, NORMAL_FORM, catalogue, {plan, NONE, NONE}, {area, EXACT}, answer, {written, NONE}}
+#define REFUSED(name, catalogue, plan, area, refusal) \
+    {name, NORMAL_FORM, catalogue, {plan, NONE, NONE}, {area, EXACT}, -(refusal), {NONE, NONE}}
+#define SAME(name, catalogue, v, w, answer) \
+    {name, EQUAL, catalogue, {v, w, NONE}, {EXACT, EXACT}, answer, {NONE, NONE}}
+#define LOOP(name, catalogue, v, w, area, answer) \
+    {name, LOOPS, catalogue, {v, w, NONE}, {area, EXACT}, answer, {NONE, NONE}}
+#define LEAD(name, catalogue, v, w, u, area0, area1, answer, vu, uw) \
+    {name, LEAD_IN_CHECK, catalogue, {v, w, u}, {area0, area1}, answer, {vu, uw}}
+
+/* Conflicts 1-2, 2-3, 3-4. */
+#define K P(4, 3, 1, 2, 3, 0, 2, 0, 3, 0, 4, 0)
+#define NO_COMMANDS P(0, 0)
+
+/* Filled by fill_long: plans of fillers, plans of the letter 1, catalogues of 24 and 25 commands without conflicts, and
+ * a catalogue of two commands whose first chain goes through 255 records. */
+static uint8_t fillers[MOST_LEAD_IN + 1], ones[MOST_LEAD_IN + 1], twenty_four[26], twenty_five[27], long_chain[514];
+#define FILLERS(n) {fillers, n}
+#define ONES(n) {ones, n}
+#define TWENTY_FOUR {twenty_four, sizeof twenty_four}
+#define TWENTY_FIVE {twenty_five, sizeof twenty_five}
+#define LONG_CHAIN {long_chain, sizeof long_chain}
+
+static void fill_long(void) {
+    memset(ones, 1, sizeof ones);
+    twenty_four[0] = 24;
+    twenty_five[0] = 25;
+    long_chain[0] = 2;
+    long_chain[1] = 255;
+    long_chain[2] = 1;
+    for (unsigned r = 1; r <= 255; r++) {
+        long_chain[2 + 2 * r] = 2;
+        long_chain[2 + 2 * r + 1] = r < 255 ? (uint8_t)(r + 1) : 0;
+    }
+}
+
+static const struct row rows[] = {
+    /* Bench cases */
+    NORMAL("case 1", K, NONE, EXACT, 0, NONE),
+    NORMAL("case 2", K, P(1, U(1)), EXACT, 0, NONE),
+    NORMAL("case 3", K, P(1, 3, U(1)), EXACT, 1, P(3)),
+    NORMAL("case 4", K, P(1, 2, U(1)), EXACT, 3, P(1, 2, U(1))),
+    LOOP("case 4: the core", K, P(1, 2, U(1)), P(2), EXACT, JOINED),
+    NORMAL("case 5", K, P(3, 1), EXACT, 2, P(1, 3)),
+    NORMAL("case 6", K, P(4, 2, 1), EXACT, 3, P(2, 1, 4)),
+    NORMAL("case 7", K, P(2, 4, 3, 1, U(3)), EXACT, 3, P(2, 1, 4)),
+    SAME("case 7 and case 6", K, P(2, 4, 3, 1, U(3)), P(4, 2, 1), 1),
+    REFUSED("case 8: room for 2", K, P(0, 1, 0), 2, 9),
+    NORMAL("case 8: room for 3", K, P(0, 1, 0), 3, 1, P(1)),
+    LOOP("case 9", K, P(1, 2), P(2, 1), EXACT, JOINED),
+    LEAD("case 9: lead-in 1", K, P(1, 2), P(2, 1), P(1), EXACT, EXACT, 1, P(1, 2, 1), P(1, 2, 1)),
+    LEAD("case 9: lead-in -2", K, P(1, 2), P(2, 1), P(U(2)), EXACT, EXACT, 1, P(1), P(1)),
+    LOOP("case 10", K, P(1), P(U(1)), EXACT, 0),
+    LOOP("case 11", K, P(1, 2, 1, U(2)), P(1, 1), EXACT, 0),
+    LOOP("case 12", K, P(2, 1, 3), P(1, 3, 2), EXACT, JOINED),
+    LEAD("case 12: lead-in 2", K, P(2, 1, 3), P(1, 3, 2), P(2), EXACT, EXACT, 1, P(2, 1, 3, 2), P(2, 1, 3, 2)),
+    LOOP("case 13", K, P(1, 1, 4), P(1, 4, 4), EXACT, 0),
+    LOOP("case 14", NO_COMMANDS, NONE, NONE, 0, JOINED),
+    LEAD("case 14: the empty lead-in", NO_COMMANDS, NONE, NONE, NONE, 0, 0, 1, NONE, NONE),
+
+    /* Edges: the number of commands, plan sizes, bytes, areas */
+    NORMAL("24 commands", TWENTY_FOUR, P(24, 1, U(24), U(1), 24), EXACT, 1, P(24)),
+    REFUSED("25 commands in the right size", TWENTY_FIVE, NONE, EXACT, 2),
+    REFUSED("25 commands in a wrong size", P(25, 0), NONE, EXACT, 1),
+    NORMAL("1,024 letters", K, ONES(1024), EXACT, 1024, ONES(1024)),
+    NORMAL("1,024 fillers", K, FILLERS(1024), EXACT, 0, NONE),
+    REFUSED("1,025 letters", K, ONES(1025), EXACT, 7),
+    REFUSED("1,025 fillers", K, FILLERS(1025), EXACT, 7),
+    NORMAL("byte 4", K, P(4), EXACT, 1, P(4)),
+    NORMAL("byte 132", K, P(132), EXACT, 1, P(132)),
+    REFUSED("byte 5", K, P(5), EXACT, 8),
+    REFUSED("byte 128", K, P(128), EXACT, 8),
+    REFUSED("byte 133", K, P(133), EXACT, 8),
+    REFUSED("byte 255", K, P(1, 2, 255), EXACT, 8),
+    REFUSED("byte 128 with 24 commands", TWENTY_FOUR, P(128), EXACT, 8),
+    NORMAL("byte 0 with no commands", NO_COMMANDS, P(0, 0), EXACT, 0, NONE),
+    REFUSED("byte 1 with no commands", NO_COMMANDS, P(1), EXACT, 8),
+    REFUSED("byte 129 with no commands", NO_COMMANDS, P(129), EXACT, 8),
+    REFUSED("an area of one byte less", K, P(1, U(1)), ONE_LESS, 9),
+    REFUSED("no area", K, P(0), 0, 9),
+    NORMAL("fillers between", K, P(0, 1, 3, 0, U(1)), EXACT, 1, P(3)),
+    LOOP("loops in an area of one byte less", K, P(1, 2), P(2, 1), ONE_LESS, -9),
+    LOOP("apart in an area of one byte less", K, P(1), P(2), ONE_LESS, -9),
+    LOOP("fillers need room too", K, P(0, 1), P(1, 0), 15, -9),
+    LOOP("fillers with room", K, P(0, 1), P(1, 0), 16, JOINED),
+    LOOP("two long loops", TWENTY_FOUR, ONES(1024), ONES(1024), EXACT, JOINED),
+    LOOP("two empty loops", K, NONE, NONE, 0, JOINED),
+    LOOP("an empty loop and a loop", K, NONE, P(1), EXACT, 0),
+
+    /* Catalogues */
+    REFUSED("no catalogue", NONE, NONE, EXACT, 1),
+    REFUSED("a catalogue of one byte", P(0), NONE, EXACT, 1),
+    REFUSED("a byte less", P(4, 3, 1, 2, 3, 0, 2, 0, 3, 0, 4), NONE, EXACT, 1),
+    REFUSED("a byte more", P(4, 3, 1, 2, 3, 0, 2, 0, 3, 0, 4, 0, 0), NONE, EXACT, 1),
+    REFUSED("a head above R", P(1, 0, 1), NONE, EXACT, 3),
+    REFUSED("a next index above R, and a command 0", P(2, 1, 0, 0, 0, 2), NONE, EXACT, 3),
+    REFUSED("a record of no command", P(0, 1, 0, 0), NONE, EXACT, 4),
+    REFUSED("a record of command 0", P(2, 1, 1, 0, 0, 0), NONE, EXACT, 4),
+    REFUSED("a record of command N + 1", P(2, 1, 1, 0, 3, 0), NONE, EXACT, 4),
+    REFUSED("an unreached record of command N + 1", P(2, 1, 0, 0, 3, 0), NONE, EXACT, 4),
+    REFUSED("an unreached record with next above R", P(2, 1, 0, 0, 1, 2), NONE, EXACT, 3),
+    REFUSED("a record whose next is itself", P(2, 1, 0, 1, 1, 1), NONE, EXACT, 5),
+    REFUSED("two records round and round", P(2, 2, 1, 0, 2, 2, 2, 1), NONE, EXACT, 5),
+    REFUSED("5 of command 2 before 6 of command 1", P(2, 2, 1, 2, 1, 0, 1, 2), NONE, EXACT, 5),
+    REFUSED("a command in its own chain", P(2, 1, 1, 0, 1, 0), NONE, EXACT, 6),
+    REFUSED("a command at the end of its own chain", P(2, 2, 1, 0, 2, 2, 1, 0), NONE, EXACT, 6),
+    NORMAL("an unreached record whose next is itself", P(2, 1, 0, 0, 1, 1), P(2, 1), EXACT, 2, P(1, 2)),
+    NORMAL("chains that share a tail", P(3, 2, 1, 2, 0, 2, 2, 3, 0), P(3, 2, 1, U(3)), EXACT, 4, P(3, 2, 1, U(3))),
+    NORMAL("a pair named twice", P(2, 2, 1, 2, 2, 0, 1, 0), P(2, 1), EXACT, 2, P(2, 1)),
+    NORMAL("a pair named by the larger command", P(2, 1, 0, 1, 1, 0), P(2, 1), EXACT, 2, P(2, 1)),
+    NORMAL("a chain of 255 records", LONG_CHAIN, P(2, 1), EXACT, 2, P(2, 1)),
+
+    /* The order of the table over several plans */
+    SAME("a byte of plan 1 before the size of plan 2", K, P(5), ONES(1025), -8),
+    SAME("the size of plan 1 before a byte of plan 2", K, ONES(1025), P(5), -7),
+    SAME("the size of plan 2", K, P(1), ONES(1025), -7),
+    SAME("a byte of plan 2", K, P(1), P(5), -8),
+    SAME("the catalogue before the plans", P(25, 0), ONES(1025), P(200), -1),
+    LOOP("a byte of plan 2 before the area", K, P(1), P(5), 0, -8),
+    LOOP("the size of plan 2 before the area", K, P(1), ONES(1025), 0, -7),
+    LEAD("1,025 bytes of lead-in", K, P(1), P(1), ONES(1025), EXACT, EXACT, 1, ONES(1026), ONES(1026)),
+    LEAD("49,152 bytes of lead-in", K, NONE, NONE, ONES(49152), EXACT, EXACT, 1, ONES(49152), ONES(49152)),
+    LEAD("49,153 bytes of lead-in", K, NONE, NONE, ONES(49153), EXACT, EXACT, -7, NONE, NONE),
+    LEAD("a byte of plan 2 before the lead-in", K, NONE, P(5), ONES(49153), EXACT, EXACT, -8, NONE, NONE),
+    LEAD("a byte of the lead-in before the areas", K, P(1), P(1), P(5), 0, 0, -8, NONE, NONE),
+    LEAD("area 0 of one byte less", K, P(1), P(1), P(2), ONE_LESS, EXACT, -9, NONE, NONE),
+    LEAD("area 1 of one byte less", K, P(1), P(1), P(2), EXACT, ONE_LESS, -9, NONE, NONE),
+    LEAD("no lead-in", K, P(1), P(2), P(3), EXACT, EXACT, 0, P(1, 3), P(3, 2)),
+    LEAD("areas with room to spare", K, P(1, U(1)), P(0), P(1, 4), 20, 30, 1, P(1, 4), P(1, 4)),
+
+    /* Slips */
+    SAME("slip 1: to cancel across a conflicting command", K, P(1, 2, U(1)), P(2), 0),
+    SAME("slip 2: to read chains as independent pairs", K, P(2, 1), P(1, 2), 0),
+    SAME("slip 2: and the others as conflicts", K, P(3, 1), P(1, 3), 1),
+    NORMAL("slip 3: end letters", K, P(3, 1, 2, U(3), U(1)), EXACT, 5, P(1, 3, 2, U(1), U(3))),
+    LOOP("slip 3: the core is 2", K, P(3, 1, 2, U(3), U(1)), P(2), EXACT, JOINED),
+    LOOP("slip 3: only the written first letter", K, P(1, 3, 2, U(3)), P(1, 2), EXACT, JOINED),
+    LOOP("slip 3: only the written last letter", K, P(1, 2, U(1), 3), P(2, 3), EXACT, JOINED),
+    LOOP("slip 4: cores that differ", K, P(1, 2, 3), P(3, 1, 2), EXACT, JOINED),
+    LOOP("slip 4: three rounds", K, P(1, 2, 3, 4), P(4, 3, 2, 1), EXACT, JOINED),
+    LOOP("slip 4: the smallest command as apex", K, P(U(1), 2, U(1), 3), P(U(1), U(1), 2, 3), EXACT, JOINED),
+    LOOP("rings that agree at one end only", K, P(2, 1, 2), P(2, 1, 1), EXACT, 0),
+    LOOP("slip 5: one ring for several parts", K, P(1, 2, 4), P(2, 1, 4), EXACT, JOINED),
+    LOOP("slip 5: parts that are apart", K, P(1, 1, 2, 4), P(1, 2, 4, 4), EXACT, 0),
+    LOOP("slip 6: net counts", K, P(1, 2, U(1), 2), P(2, 2), EXACT, 0),
+    LOOP("slip 6: net counts in one ring", K, P(1, 2, 1, 2), P(1, 1, 2, 2), EXACT, 0),
+};
+
+static struct guarded lent[2];
+static uint8_t nothing[1];
+
+static void fail(const struct row *row, const char *who, const char *what, int64_t answer) {
+    fprintf(stderr, "cases: %s: %s, by the %s: %s (answer %" PRId64 ")\n", row->name, call_name[row->call], who, what,
+            answer);
+    exit(1);
+}
+
+/* The lead-in in area 0 must be a normal form of at most N(n + m) letters and pass both checks. */
+static void check_lead_in(const struct row *row, const struct question *asked, const char *who, int64_t answer) {
+    static uint8_t space[2][MOST_GUARDED];
+    struct area spare[2] = {{space[0], sizeof space[0]}, {space[1], sizeof space[1]}};
+    struct question q = *asked;
+    struct conflicts k;
+    struct word u, normal;
+    size_t size = (size_t)answer - 1;
+    if (answer < 1 || size > room(asked, 0)) fail(row, who, "not the length of a lead-in", answer);
+    if (!guarded_holds(&lent[0], lent[0].at, size)) fail(row, who, "bytes past the lead-in are changed", answer);
+    q.call = LEAD_IN_CHECK;
+    q.plan[2] = (struct slice){lent[0].at, size};
+    if (ask_library(&q, spare) != 1 || ask_solver(&q, spare) != 1) fail(row, who, "not a lead-in", answer);
+    solver_catalogue(row->catalogue.at, row->catalogue.size, &k);
+    solver_word(lent[0].at, size, &u);
+    solver_word(lent[0].at, size, &normal);
+    solver_normal(&k, &normal);
+    if (u.size != size || !solver_same(&u, &normal)) fail(row, who, "not a normal form", answer);
+}
+
+static struct slice give(struct slice slice, bool nulls) {
+    return slice.size == 0 && !nulls ? (struct slice){nothing, 0} : slice;
+}
+
+static void run(const struct row *row, bool library, bool nulls) {
+    const char *who = library ? "library" : "solver";
+    struct question q = {.call = row->call, .catalogue = give(row->catalogue, nulls)};
+    struct area area[2] = {{0}};
+    for (unsigned i = 0; i < 3; i++) q.plan[i] = give(row->plan[i], nulls);
+    for (unsigned i = 0; i < areas_of[row->call]; i++) {
+        size_t exact = room(&q, i);
+        size_t size = row->area[i] == EXACT ? exact : row->area[i] == ONE_LESS ? exact - 1 : (size_t)row->area[i];
+        guarded_noise(&lent[i], size, true, size);
+        area[i] = (struct area){size == 0 && nulls ? NULL : lent[i].at, size};
+    }
+    int64_t answer = library ? ask_library(&q, area) : ask_solver(&q, area);
+    if (row->answer == JOINED) {
+        check_lead_in(row, &q, who, answer);
+        return;
+    }
+    if (answer != row->answer) fail(row, who, "another answer", answer);
+    for (unsigned i = 0; i < areas_of[row->call]; i++)
+        if (!guarded_holds(&lent[i], row->written[i].at, row->written[i].size))
+            fail(row, who, "other bytes in an area", answer);
+}
+
+int main(void) {
+    size_t count = sizeof rows / sizeof rows[0];
+    fill_long();
+    guarded_open(&lent[0]);
+    guarded_open(&lent[1]);
+    for (size_t i = 0; i < count; i++)
+        for (unsigned way = 0; way < 4; way++) run(&rows[i], way / 2 == 1, way % 2 == 1);
+    printf("cases: %zu rows, library and solver: all as document 01 says\n", count);
+    return 0;
+}

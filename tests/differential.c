@@ -1,0 +1,238 @@
+/* Puts random questions to the library and to the solver and compares the answers, every byte of the areas, and bytes
+ * beside them. Usage: differential [SEED [CALLS]]. A difference prints the question in hexadecimal and fails. */
+#include "brute.h"
+#include "calls.h"
+#include "guarded.h"
+#include "supply.h"
+
+#include <inttypes.h>
+#include <signal.h>
+#include <stdio.h>
+#include <stdlib.h>
+#include <string.h>
+
+static uint64_t seed = 1, calls;
+
+/* The inputs as drawn, the guarded memory they are handed over in, and the areas: the library's and the solver's. */
+static struct bytes catalogue, plan[3];
+static struct guarded given[4], lent[2];
+static uint8_t expected_bytes[2][MOST_GUARDED];
+static struct question question;
+
+/* How often each call gave each answer: 0, minus 1 to 10, or ABOVE for any answer above 0. */
+enum { ABOVE = 11, ANSWERS = 12 };
+static uint64_t answers[CALLS][ANSWERS];
+
+/* ---- When something is wrong */
+
+static void print_bytes(const char *name, const uint8_t *at, size_t size) {
+    fprintf(stderr, "  %s, %zu bytes:", name, size);
+    for (size_t i = 0; i < size; i++) fprintf(stderr, " %02x", at[i]);
+    fputc('\n', stderr);
+}
+
+static void fail(const char *what) {
+    static const char *const plan_name[3] = {"plan 1", "plan 2", "plan 3"};
+    fprintf(stderr, "differential: seed %" PRIu64 ", call %" PRIu64 ", %s: %s\n", seed, calls,
+            call_name[question.call], what);
+    print_bytes("catalogue", catalogue.at, catalogue.size);
+    for (unsigned i = 0; i < plans_of[question.call]; i++) print_bytes(plan_name[i], plan[i].at, plan[i].size);
+    for (unsigned i = 0; i < areas_of[question.call]; i++) fprintf(stderr, "  area %u: %zu bytes\n", i, lent[i].size);
+    exit(1);
+}
+
+static void fail_answers(int64_t got, int64_t expected) {
+    fprintf(stderr, "  the library answers %" PRId64 ", the solver %" PRId64 "\n", got, expected);
+    fail("the answers differ");
+}
+
+static void stopped(int signal_number) {
+    (void)signal_number;
+    fail("the call touched memory that it was not handed, or ran out of stack");
+}
+
+static void catch_stops(void) {
+    static uint8_t stack[1 << 16];
+    stack_t other = {.ss_sp = stack, .ss_size = sizeof stack};
+    struct sigaction action = {.sa_handler = stopped, .sa_flags = SA_ONSTACK};
+    sigaltstack(&other, NULL);
+    sigaction(SIGSEGV, &action, NULL);
+    sigaction(SIGBUS, &action, NULL);
+    sigaction(SIGILL, &action, NULL);
+}
+
+/* ---- One call */
+
+/* Copies an input to guarded memory; an empty one is handed over as a null pointer half of the time. */
+static struct slice give(struct guarded *g, const struct bytes *from) {
+    guarded_bytes(g, from->at, from->size, chance(50));
+    return (struct slice){from->size == 0 && chance(50) ? NULL : g->at, from->size};
+}
+
+static void give_all(void) {
+    question.catalogue = give(&given[0], &catalogue);
+    for (unsigned i = 0; i < 3; i++) question.plan[i] = give(&given[1 + i], &plan[i]);
+}
+
+/* Mostly as many bytes as are needed, or more; else one less, or far less. */
+static size_t area_size(size_t needed) {
+    size_t which = below(100), size = needed;
+    if (which < 30) size = needed + 1 + below(40);
+    if (which >= 90 && needed > 0) size = which < 98 ? needed - 1 : below(needed);
+    return size < 60000 ? size : 60000;
+}
+
+/* The lead-in that the library gives is free: it must be a normal form, short enough, and join the two loops. */
+static void check_lead_in(const struct conflicts *k, int64_t got) {
+    static uint8_t space[2][MOST_GUARDED];
+    struct area spare[2] = {{space[0], sizeof space[0]}, {space[1], sizeof space[1]}};
+    struct question check = question;
+    struct word u, normal;
+    size_t size = (size_t)got - 1;
+    if (got < 1) fail("the loops are joined and the library says otherwise");
+    if (size > room(&question, 0)) fail("the lead-in is longer than N(n + m)");
+    check.call = LEAD_IN_CHECK;
+    check.plan[2] = (struct slice){lent[0].at, size};
+    if (ask_solver(&check, spare) != 1) fail("the lead-in does not join the loops");
+    solver_word(lent[0].at, size, &u);
+    memcpy(normal.letter, u.letter, u.size);
+    normal.size = u.size;
+    solver_normal(k, &normal);
+    if (u.size != size || !solver_same(&u, &normal)) fail("the lead-in is not a normal form");
+    if (!guarded_holds(&lent[0], u.letter, size)) fail("bytes past the lead-in are changed");
+}
+
+/* Asks both and compares. Returns the library's answer. */
+static int64_t compare(enum call call) {
+    struct area area[2] = {{0}}, expected_area[2] = {{0}};
+    struct conflicts k;
+    question.call = call;
+    for (unsigned i = 0; i < areas_of[call]; i++) {
+        guarded_noise(&lent[i], area_size(room(&question, i)), chance(50), below(1 << 15));
+        memcpy(expected_bytes[i], lent[i].at, lent[i].size);
+        expected_area[i] = (struct area){expected_bytes[i], lent[i].size};
+        area[i] = (struct area){lent[i].size == 0 && chance(50) ? NULL : lent[i].at, lent[i].size};
+    }
+    calls++;
+    int64_t got = ask_library(&question, area), expected = ask_solver(&question, expected_area);
+    answers[call][expected > 0 ? ABOVE : -expected]++;
+    if (call == LOOPS && expected > 0) {
+        solver_catalogue(catalogue.at, catalogue.size, &k);
+        check_lead_in(&k, got);
+    } else {
+        if (got != expected) fail_answers(got, expected);
+        for (unsigned i = 0; i < areas_of[call]; i++)
+            if (!guarded_holds(&lent[i], expected_bytes[i], lent[i].size)) fail("the bytes of an area differ");
+    }
+    if (!guarded_holds(&given[0], catalogue.at, catalogue.size)) fail("the catalogue is changed");
+    for (unsigned i = 0; i < plans_of[call]; i++)
+        if (!guarded_holds(&given[1 + i], plan[i].at, plan[i].size)) fail("a plan is changed");
+    return got;
+}
+
+/* ---- One round: a catalogue, two plans and a lead-in, and all four calls on them */
+
+static void draw_plans(const struct conflicts *k) {
+    random_plan(k, &plan[0]);
+    random_plan(k, &plan[2]);
+    size_t which = below(100);
+    if (which < 20) random_plan(k, &plan[1]);
+    else if (which < 40) equal_plan(k, &plan[0], &plan[1]);
+    else joined_plan(k, &plan[0], &plan[1], &plan[2]);
+    if (which < 8 || which >= 75) spoil_plan(k, &plan[1]);
+    if (below(1500) == 0) lengthen_lead_in(&plan[0], &plan[1], &plan[2]);
+}
+
+static void damage(const struct conflicts *k) {
+    if (chance(8)) damage_plan(k, &plan[0], MOST_PLAN);
+    if (chance(8)) damage_plan(k, &plan[1], MOST_PLAN);
+    if (chance(5)) damage_plan(k, &plan[2], MOST_LEAD_IN);
+    if (chance(40)) damage_catalogue(&catalogue);
+    if (chance(8)) damage_catalogue(&catalogue);
+}
+
+/* Puts what the library wrote as a lead-in, or what the solver wrote, in the place of plan 3. */
+static void take_lead_in(int64_t answer) {
+    struct area area[2] = {{expected_bytes[0], MOST_GUARDED}};
+    bool solvers = chance(30);
+    if (solvers) answer = ask_solver(&question, area);
+    plan[2].size = (size_t)answer - 1;
+    memcpy(plan[2].at, solvers ? expected_bytes[0] : lent[0].at, plan[2].size);
+    question.plan[2] = give(&given[3], &plan[2]);
+}
+
+/* For short plans: the normal form and the verdict on loops by trying all steps. A damaged catalogue that is still
+ * accepted may have other conflicts than before, so it is read again. */
+static void ask_brute(void) {
+    struct conflicts k;
+    struct word brute[2], normal[2];
+    struct area area[2] = {{expected_bytes[0], MOST_GUARDED}};
+    solver_catalogue(catalogue.at, catalogue.size, &k);
+    for (unsigned i = 0; i < 2; i++) {
+        solver_word(plan[i].at, plan[i].size, &brute[i]);
+        solver_word(plan[i].at, plan[i].size, &normal[i]);
+        if (brute[i].size > MOST_BRUTE) return;
+        solver_normal(&k, &normal[i]);
+        brute_least(&k, &brute[i], false);
+        if (!solver_same(&brute[i], &normal[i])) fail("the search finds another normal form");
+        brute_least(&k, &brute[i], true);
+    }
+    question.call = LOOPS;
+    bool joined = ask_solver(&question, area) > 0;
+    if (joined != solver_same(&brute[0], &brute[1])) fail("the search finds another verdict");
+}
+
+static void round_of_calls(void) {
+    struct conflicts k;
+    bool settling = below(2000) == 0;
+    if (settling) long_settling(&catalogue, &plan[0], &plan[1]);
+    else random_catalogue(&catalogue);
+    if (solver_catalogue(catalogue.at, catalogue.size, &k) != 0) fail("a catalogue that should be right is refused");
+    if (!settling) draw_plans(&k);
+    if (!settling && chance(25)) damage(&k);
+    give_all();
+    compare(NORMAL_FORM);
+    compare(EQUAL);
+    compare(LEAD_IN_CHECK);
+    int64_t answer = compare(LOOPS);
+    if (answer > 0) {
+        take_lead_in(answer);
+        if (compare(LEAD_IN_CHECK) == 0) fail("a lead-in of two joined loops does not pass the check");
+    }
+    if (answer >= 0 && chance(10)) ask_brute();
+}
+
+/* ---- The whole */
+
+/* Every answer that document 01 lets a call give must have come up, but for refusal 10, which cannot. */
+static void print_answers(void) {
+    printf("%-14s %8s %8s", "answer", "above 0", "0");
+    for (int i = 1; i <= 9; i++) printf(" %8d", -i);
+    putchar('\n');
+    for (unsigned call = 0; call < CALLS; call++) {
+        printf("%-14s %8" PRIu64 " %8" PRIu64, call_name[call], answers[call][ABOVE], answers[call][0]);
+        for (unsigned i = 1; i <= 9; i++) printf(" %8" PRIu64, answers[call][i]);
+        putchar('\n');
+        for (unsigned i = 0; i < ANSWERS; i++) {
+            bool expected = i != 10 && (i != 9 || areas_of[call] > 0);
+            if (expected && calls >= 100000 && answers[call][i] == 0) {
+                fprintf(stderr, "differential: %s never gave answer %u\n", call_name[call], i);
+                exit(1);
+            }
+        }
+    }
+}
+
+int main(int count, char **argument) {
+    uint64_t wanted = 1200000;
+    if (count > 1) seed = strtoull(argument[1], NULL, 10);
+    if (count > 2) wanted = strtoull(argument[2], NULL, 10);
+    seed_random(seed);
+    catch_stops();
+    for (unsigned i = 0; i < 4; i++) guarded_open(&given[i]);
+    for (unsigned i = 0; i < 2; i++) guarded_open(&lent[i]);
+    while (calls < wanted) round_of_calls();
+    print_answers();
+    printf("differential: %" PRIu64 " calls, seed %" PRIu64 ": all agree\n", calls, seed);
+    return 0;
+}

@@ -1,0 +1,27 @@
+#!/bin/sh
+# Compiles the C tests against the library's archive and runs them: the table of cases, the example console, calls from
+# several threads, and a million random calls beside a second solver.
+#
+#   tests/run.sh [LIBRARY]     LIBRARY: another archive or shared library with the calls of include/busplan.h
+#
+# SEED (default 1) and CALLS (default 1200000) set the random calls.
+set -e
+. "$(dirname "$0")/library.sh"
+out=target/tests
+mkdir -p "$out"
+compile() { # NAME SOURCE...
+  name=$1
+  shift
+  "$cc" -O2 -Wall -Wextra -pthread -Iinclude "$@" "$library" -Wl,-rpath,"$(dirname "$library")" -o "$out/$name"
+}
+compile cases tests/cases.c tests/guarded.c tests/solver.c
+compile console examples/console.c
+compile threads tests/threads.c tests/supply.c tests/solver.c
+compile differential tests/differential.c tests/guarded.c tests/supply.c tests/brute.c tests/solver.c
+
+"$out/cases"
+"$out/console" <tests/console.in | sed 's/lead-in: .*/lead-in/' >"$out/console.out"
+diff tests/console.out "$out/console.out"
+echo "console: prints what tests/console.out has"
+"$out/threads"
+"$out/differential" "${SEED:-1}" "${CALLS:-1200000}"

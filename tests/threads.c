@@ -1,0 +1,116 @@
+/* Two promises of busplan.h: several threads may call at once, and a call gets by with BUSPLAN_STACK bytes of stack.
+ * Four threads put the same questions, each in its own order; every answer and every byte must be as it was when one
+ * thread asked alone. Their stacks are filled beforehand, so that it shows how far they were used. */
+#include "calls.h"
+#include "supply.h"
+
+#include <pthread.h>
+#include <stdio.h>
+#include <stdlib.h>
+#include <string.h>
+
+/* THREAD_STACK is for what a thread itself needs beside a call. */
+enum { THREADS = 4, QUESTIONS = 600, MOST_AREA = 1 << 16 };
+enum { LENT_STACK = 1 << 23, THREAD_STACK = 1 << 14, PAINT = 0xA5 };
+
+struct task {
+    struct question question;
+    struct area expected[2];
+    int64_t answer;
+};
+
+static struct task task[QUESTIONS];
+
+static void fail(const char *what) {
+    fprintf(stderr, "threads: %s\n", what);
+    exit(1);
+}
+
+static uint8_t *new_bytes(size_t size) {
+    uint8_t *bytes = calloc(size + 1, 1);
+    if (bytes == NULL) fail("no memory");
+    return bytes;
+}
+
+static struct slice keep(const struct bytes *from) {
+    return (struct slice){memcpy(new_bytes(from->size), from->at, from->size), from->size};
+}
+
+/* A random question; every tenth has long plans and a lead-in that is long too. */
+static struct question draw_question(size_t number) {
+    static struct bytes catalogue, v, w, u;
+    struct conflicts k;
+    bool large = number % 10 == 0;
+    if (large) long_settling(&catalogue, &v, &w);
+    else random_catalogue(&catalogue);
+    solver_catalogue(catalogue.at, catalogue.size, &k);
+    if (!large) random_plan(&k, &v);
+    joined_plan(&k, &v, &w, &u);
+    if (large) lengthen_lead_in(&v, &w, &u);
+    return (struct question){(enum call)(number / 10 % CALLS), keep(&catalogue), {keep(&v), keep(&w), keep(&u)}};
+}
+
+static void ask_alone(void) {
+    for (size_t i = 0; i < QUESTIONS; i++) {
+        struct task *t = &task[i];
+        t->question = draw_question(i);
+        for (unsigned j = 0; j < areas_of[t->question.call]; j++) {
+            size_t size = room(&t->question, j);
+            t->expected[j] = (struct area){new_bytes(size), size};
+        }
+        t->answer = ask_library(&t->question, t->expected);
+    }
+}
+
+/* Puts every question once, beginning at another place in each thread. Returns NULL if all is as it was. */
+static void *ask_all(void *number) {
+    size_t first = *(size_t *)number * (QUESTIONS / THREADS);
+    uint8_t *bytes[2] = {new_bytes(MOST_AREA), new_bytes(MOST_AREA)};
+    bool same = true;
+    for (size_t i = 0; i < QUESTIONS && same; i++) {
+        const struct task *t = &task[(first + i) % QUESTIONS];
+        struct area area[2] = {{bytes[0], t->expected[0].size}, {bytes[1], t->expected[1].size}};
+        for (unsigned j = 0; j < 2; j++) memset(bytes[j], 0, area[j].size);
+        same = ask_library(&t->question, area) == t->answer;
+        for (unsigned j = 0; j < areas_of[t->question.call]; j++)
+            same = same && memcmp(bytes[j], t->expected[j].at, area[j].size) == 0;
+    }
+    return same ? NULL : number;
+}
+
+/* A stack grows downwards through bytes that were all PAINT. */
+static size_t stack_used(const uint8_t *stack) {
+    size_t free_bytes = 0;
+    while (free_bytes < LENT_STACK && stack[free_bytes] == PAINT) free_bytes++;
+    return LENT_STACK - free_bytes;
+}
+
+static void start(pthread_t *thread, uint8_t *stack, size_t *number) {
+    pthread_attr_t attributes;
+    memset(stack, PAINT, LENT_STACK);
+    pthread_attr_init(&attributes);
+    if (pthread_attr_setstack(&attributes, stack, LENT_STACK) != 0
+        || pthread_create(thread, &attributes, ask_all, number) != 0)
+        fail("cannot start a thread");
+}
+
+int main(void) {
+    static _Alignas(4096) uint8_t stack[THREADS][LENT_STACK];
+    pthread_t thread[THREADS];
+    size_t number[THREADS], most = 0;
+    seed_random(1);
+    ask_alone();
+    for (size_t i = 0; i < THREADS; i++) {
+        number[i] = i;
+        start(&thread[i], stack[i], &number[i]);
+    }
+    for (size_t i = 0; i < THREADS; i++) {
+        void *wrong;
+        pthread_join(thread[i], &wrong);
+        if (wrong != NULL) fail("an answer differs when several threads call at once");
+        if (stack_used(stack[i]) > most) most = stack_used(stack[i]);
+    }
+    printf("threads: %d calls in each of %d threads, %zu bytes of stack: all as alone\n", QUESTIONS, THREADS, most);
+    if (most > BUSPLAN_STACK + THREAD_STACK) fail("that is more stack than BUSPLAN_STACK");
+    return 0;
+}
