@@ -1,0 +1,98 @@
+-- Laws of the lead-in check: two words appended one behind the other are their product, and what the areas begin with.
+use Prim.Native.Nat.{ℕ, _+_, _≤_}
+use mathlib.Core.Path.{_≡_, sym, _∙_, ap}
+use mathlib.Core.Bool.{Bool, true}
+use mathlib.Core.List.{List, _++_}
+use mathlib.Core.Logic.{_↔_}
+use native.Mathlib.Omega.{arith}
+use lib.ListN.{length, take, drop, length-append}
+use lib.Seq.{take-at}
+use Rattle.words.specs.All.{all-append}
+use Rattle.plan.specs.Letters.{normalForm}
+use Rattle.plan.specs.LettersLaws.{letters-length}
+use Rattle.reduction.specs.Reducing.{Given}
+use Rattle.longform.specs.Form.{Room, Written}
+use Rattle.row.specs.Row.{Appended}
+use Rattle.row.specs.RowLaws.{appended-length, appended-take}
+use Rattle.checking.specs.Checking.{Joined, Factors, Rows, Checkable, CheckedIn}
+
+-- two words appended, the second behind the first
+pub appended-joined : {row₀ row₁ row₂ first second : List ℕ} {middle end : ℕ} → Appended row₀ 0 first row₁ middle
+    → Appended row₁ middle second row₂ end → length first + length second ≤ length row₀
+    → Joined first second row₂ end
+appended-joined {row₀} {row₁} {second = second} a b h =
+    let l : length row₁ ≡ length row₀ = appended-length a (omega (arith, a .ends)) in
+    record {
+      ends = omega (arith, a .ends, b .ends);
+      begins = appended-take b (omega (arith, a .ends, b .ends))
+          ∙ ap (λ (x : List ℕ). x ++ second) (appended-take a (omega (arith, a .ends)));
+    }
+
+module _ {first second row : List ℕ} {end : ℕ} (j : Joined first second row end) {c : List ℕ}
+    {conflicts : List (List ℕ)} {area : List ℕ} (f : Factors c conflicts first second area) where
+  pub joined-given : Given c conflicts (take end row)
+  joined-given = rw (j .begins) (record {
+    table = f .table;
+    few = f .few;
+    passing = all-append _ first second (f .left) (f .right);
+    short = omega (arith, length-append first second, f .short);
+  })
+
+  pub joined-room : {before under link : List ℕ} → Rows (length first + length second) before under link
+      → Room (take end row) under link area
+  joined-room s =
+      let l = length-append first second in
+      rw (j .begins) (record {
+        unders = omega (arith, s .unders);
+        links = omega (arith, s .links);
+        fits = omega (arith, letters-length (first ++ second), f .fits);
+      })
+
+pub joined-written : {first second row c before after : List ℕ} {end r : ℕ} → Joined first second row end
+    → Written c (take end row) before after r → Written c (first ++ second) before after r
+joined-written j w = rw (j .begins) at w
+
+-- an area that begins with a normal form
+module _ {c word before after : List ℕ} {r : ℕ} (w : Written c word before after r) where
+  pub written-fits : r ≤ length after
+  written-fits = omega (arith, w .count, ap length (w .bytes), length-append (normalForm c word) (drop r before))
+
+  pub written-take : take r after ≡ normalForm c word
+  written-take = ap (take r) (w .bytes) ∙ take-at (normalForm c word) (drop r before) r (sym (w .count))
+
+pub rows-by : {n limit : ℕ} {row under link : List ℕ} → n ≤ limit → limit ≡ length row → limit ≡ length under
+    → limit ≡ length link → Rows n row under link
+rows-by h e f g = record { bytes = omega arith; unders = omega arith; links = omega arith }
+
+module _ {c : List ℕ} {conflicts : List (List ℕ)} {v w u before0 before1 : List ℕ}
+    (k : Checkable c conflicts v w u before0 before1) where
+  pub checkable-first : Factors c conflicts v u before0
+  checkable-first = record {
+    table = k .table;
+    few = k .few;
+    left = k .passing-v;
+    right = k .passing-u;
+    short = omega (arith, k .short-v, k .short-u);
+    fits = k .fits0;
+  }
+
+  pub checkable-second : Factors c conflicts u w before1
+  checkable-second = record {
+    table = k .table;
+    few = k .few;
+    left = k .passing-u;
+    right = k .passing-w;
+    short = omega (arith, k .short-w, k .short-u);
+    fits = k .fits1;
+  }
+
+-- the starts of the areas are the same exactly if the normal forms are
+pub checked-in : {c v w u before0 after0 before1 after1 : List ℕ} {same : Bool} {vu uw : ℕ}
+    → Written c (v ++ u) before0 after0 vu → Written c (u ++ w) before1 after1 uw
+    → (same ≡ true) ↔ (take vu after0 ≡ take uw after1)
+    → CheckedIn c v w u before0 after0 before1 after1 (record { same = same; vu = vu; uw = uw })
+checked-in x y s = record {
+  same = rw (written-take x, written-take y) at s;
+  written0 = x;
+  written1 = y;
+}

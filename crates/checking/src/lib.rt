@@ -1,0 +1,121 @@
+// The lead-in check of plans that have passed their checks: the normal forms of v·u and u·w, and whether they are the
+// same.
+
+use longform::normal_form;
+use row::append;
+ghost use Prim.Native.Nat.{ℕ, _+_, _≤_};
+ghost use mathlib.Core.Path.{_≡_};
+ghost use mathlib.Core.Bool.{true};
+ghost use mathlib.Core.List.{List};
+ghost use mathlib.Core.Logic.{_↔_};
+ghost use lib.ListN.{length};
+ghost use Rattle.checking.specs.Checking.{Joined, Factors, Rows, Multiplied, Checkable, CheckedIn};
+
+// Whether the two normal forms are equal, and their lengths.
+pub struct Both {
+    pub same: bool,
+    pub vu: usize,
+    pub uw: usize,
+}
+
+// Puts both words at the start of the row, one behind the other, and gives their end.
+fn join(first: &[u8], second: &[u8], row: &mut [u8]) -> usize
+    requires { ⌜ length (now first) + length (now second) ≤ length (now row) ⌝ }
+    ensures { λ r. ⌜ Joined (now (first .entry)) (now (second .entry)) (now (row .exit)) r ⌝ }
+{
+    let middle = append(row, 0, first);
+    append(row, middle, second)
+}
+
+// Writes the normal form of first · second into the area and gives its length. The three rows are worked in; what they
+// hold before does not matter.
+fn product_in(
+    first: &[u8],
+    second: &[u8],
+    conflicts: &[[u16; 24]; 24],
+    row: &mut [u8],
+    under: &mut [u16],
+    link: &mut [u16],
+    area: &mut [u8],
+) -> usize
+    requires { ⌜ ((c : List ℕ) × Factors c (now conflicts) (now first) (now second) (now area)
+        × Rows (length (now first) + length (now second)) (now row) (now under) (now link)) ⌝ }
+    ensures { λ r. ⌜ Multiplied (now (conflicts .entry)) (now (first .entry)) (now (second .entry))
+        (now (area .entry)) (now (area .exit)) r ⌝ }
+{
+    let end = join(first, second, row);
+    normal_form(&row[..end], conflicts, under, link, area)
+}
+
+// As `product_in`, with rows of its own: short ones where they suffice, so that a short product clears little.
+fn product(first: &[u8], second: &[u8], conflicts: &[[u16; 24]; 24], area: &mut [u8]) -> usize
+    requires { ⌜ ((c : List ℕ) × Factors c (now conflicts) (now first) (now second) (now area)) ⌝ }
+    ensures { λ r. ⌜ Multiplied (now (conflicts .entry)) (now (first .entry)) (now (second .entry))
+        (now (area .entry)) (now (area .exit)) r ⌝ }
+{
+    if first.len() + second.len() <= 2048 {
+        let mut row = row::short_row();
+        let mut under = row::short_links();
+        let mut link = row::short_links();
+        return product_in(
+            first,
+            second,
+            conflicts,
+            &mut row,
+            &mut under,
+            &mut link,
+            area,
+        );
+    }
+    let mut row = row::blank_row();
+    let mut under = row::blank_links();
+    let mut link = row::blank_links();
+    product_in(
+        first,
+        second,
+        conflicts,
+        &mut row,
+        &mut under,
+        &mut link,
+        area,
+    )
+}
+
+// Whether two words are the same. The bits in which bytes differ are gathered, with no way out of the loop, so that
+// many bytes are compared at a time.
+fn same_bytes(a: &[u8], b: &[u8]) -> bool
+    ensures { λ r. ⌜ ((r ≡ true) ↔ (now (a .entry) ≡ now (b .entry))) ⌝ }
+{
+    if a.len() != b.len() {
+        return false;
+    }
+    let mut differ: u8 = 0;
+    let mut i = 0;
+    while i < a.len() {
+        differ |= a[i] ^ b[i];
+        i += 1;
+    }
+    differ == 0
+}
+
+// The lead-in check: the normal form of v·u is written at the start of area0, that of u·w at the start of area1.
+pub fn check(
+    v: &[u8],
+    w: &[u8],
+    u: &[u8],
+    conflicts: &[[u16; 24]; 24],
+    area0: &mut [u8],
+    area1: &mut [u8],
+) -> Both
+    requires { ⌜ ((c : List ℕ) × Checkable c (now conflicts) (now v) (now w) (now u) (now area0) (now area1)) ⌝ }
+    ensures { λ r. ⌜ ((c : List ℕ)
+        → Checkable c (now (conflicts .entry)) (now (v .entry)) (now (w .entry)) (now (u .entry))
+        (now (area0 .entry)) (now (area1 .entry))
+        → CheckedIn c (now (v .entry)) (now (w .entry)) (now (u .entry)) (now (area0 .entry)) (now (area0 .exit))
+        (now (area1 .entry)) (now (area1 .exit)) r) ⌝ }
+{
+    let vu = product(v, u, conflicts, area0);
+    let uw = product(u, w, conflicts, area1);
+    let same = same_bytes(&area0[..vu], &area1[..uw]);
+    Both { same, vu, uw }
+}
