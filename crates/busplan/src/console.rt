@@ -2,8 +2,9 @@
 // calls/specs/Codes.antt gives for each case of a call's answer.
 
 ghost use mathlib.Core.Path.{_≡_};
-ghost use Rattle.calls.specs.Codes.{lengthCode, equalCode};
+ghost use Rattle.calls.specs.Codes.{lengthCode, equalCode, checkCode};
 ghost use Rattle.calls.specs.Calls.{normalFormAnswer, normalFormArea, equalAnswer};
+ghost use Rattle.calls.specs.Loops.{checkAnswer, checkArea0, checkArea1};
 
 #[no_mangle]
 pub extern "C" fn busplan_normal_form(catalogue: &[u8], plan: &[u8], area: &mut [u8]) -> i64
@@ -20,4 +21,23 @@ pub extern "C" fn busplan_equal(catalogue: &[u8], v: &[u8], w: &[u8]) -> i64
     ensures { λ r. ⌜ r ≡ equalCode (equalAnswer (now (catalogue .entry)) (now (v .entry)) (now (w .entry))) ⌝ }
 {
     codes::equal_code(crate::equal(catalogue, v, w))
+}
+
+#[no_mangle]
+pub extern "C" fn busplan_lead_in_check(
+    catalogue: &[u8],
+    v: &[u8],
+    w: &[u8],
+    u: &[u8],
+    area0: &mut [u8],
+    area1: &mut [u8],
+) -> i64
+    ensures answer { λ r. ⌜ r ≡ checkCode (checkAnswer (now (catalogue .entry)) (now (v .entry)) (now (w .entry))
+        (now (u .entry)) (now (area0 .entry)) (now (area1 .entry))) ⌝ }
+    ensures bytes0 { λ r. ⌜ now (area0 .exit) ≡ checkArea0 (now (catalogue .entry)) (now (v .entry)) (now (w .entry))
+        (now (u .entry)) (now (area0 .entry)) (now (area1 .entry)) ⌝ }
+    ensures bytes1 { λ r. ⌜ now (area1 .exit) ≡ checkArea1 (now (catalogue .entry)) (now (v .entry)) (now (w .entry))
+        (now (u .entry)) (now (area0 .entry)) (now (area1 .entry)) ⌝ }
+{
+    codes::check_code(crate::lead_in_check(catalogue, v, w, u, area0, area1))
 }

@@ -6,18 +6,21 @@ ghost use mathlib.Core.Path.{_≡_};
 ghost use Rattle.refusal.specs.Line.{line, toldChecked, lineOf};
 ghost use Rattle.calls.specs.Answers.{toldWritten, toldEquality};
 ghost use Rattle.calls.specs.Calls.{normalFormAnswer, normalFormArea, coreAnswer, coreArea, equalAnswer};
-ghost use Rattle.calls.specs.Answers.{toldLeadIn};
-ghost use Rattle.calls.specs.Loops.{checkAnswer, checkArea0, checkArea1};
+ghost use Rattle.calls.specs.Answers.{toldLoops, toldLeadIn};
+ghost use Rattle.calls.specs.Loops.{Looped, checkAnswer, checkArea0, checkArea1};
 ghost use Rattle.refusal.specs.Line.{given};
 ghost use Rattle.busplan.specs.Outcome.{SameRefusal, form, WrittenForm};
+ghost use Rattle.busplan.specs.LoopOutcome.{toldOutcome};
 
 mod console;
 
 use calls::Equality;
 use calls::LeadIn;
 use calls::Lengths;
+use calls::Loops;
 use calls::Written;
 use checking::Both;
+use leading::Outcome;
 use refusal::Checked;
 use refusal::Reason;
 use refusal::Refusal;
@@ -106,6 +109,47 @@ pub fn equal(catalogue: &[u8], v: &[u8], w: &[u8]) -> Equality
         return Equality::Yes;
     }
     Equality::No
+}
+
+// A refused check, passed on untouched as the answer of the loops call.
+fn not_joined(checked: Checked) -> Loops
+    ensures { λ r. ⌜ SameRefusal checked (toldLoops r) ⌝ }
+{
+    match checked {
+        Checked::Passed(_) => Loops::Apart,
+        Checked::Refused(refusal) => Loops::Refused(refusal),
+    }
+}
+
+// The verdict as the answer of the loops call; line 10 for a plan with an unsettled part.
+fn verdict(outcome: Outcome) -> Loops
+    ensures { λ r. ⌜ toldLoops r ≡ toldOutcome outcome ⌝ }
+{
+    match outcome {
+        Outcome::Joined(l) => Loops::Joined(l),
+        Outcome::Apart => Loops::Apart,
+        Outcome::Unsettled(plan) => Loops::Refused(Refusal {
+            reason: Reason::Unsettled,
+            plan,
+            place: 0,
+        }),
+    }
+}
+
+// Whether two loops are joined. Where they are, a lead-in from v to w stands at the start of area, in normal form.
+pub fn loops(catalogue: &[u8], v: &[u8], w: &[u8], area: &mut [u8]) -> Loops
+    ensures { λ r. ⌜ Looped (now (catalogue .entry)) (now (v .entry)) (now (w .entry)) (now (area .entry)) (toldLoops r)
+        (now (area .exit)) ⌝ }
+{
+    let mut conflicts = chains::blank();
+    let checked = entry::two_plans(catalogue, v, w, &mut conflicts);
+    let Checked::Passed(commands) = checked else {
+        return not_joined(checked);
+    };
+    if area.len() < commands * (v.len() + w.len()) {
+        return Loops::Refused(small_area(0));
+    }
+    verdict(joining::join(v, w, commands, &conflicts, area))
 }
 
 // A refused check, passed on untouched as the answer of the lead-in check.

@@ -1,0 +1,49 @@
+-- What joining two plans asks and gives: the lead-in as a word in a row, and then its normal form in the area.
+use Prim.Native.Nat.{ℕ, _+_, _*_, _≤_}
+use mathlib.Core.Path.{_≡_}
+use mathlib.Core.Bool.{true, false}
+use mathlib.Core.List.{List, _++_}
+use lib.ListN.{length, take, drop}
+use Rattle.conjugacy.specs.Decision.{joined?}
+use Rattle.catalogue.specs.Catalogue.{commands}
+use Rattle.plan.specs.Letters.{letters, alphabet, normalForm}
+use Rattle.plan.specs.LettersLaws.{Commands}
+use Rattle.engine.specs.Passed.{Passed}
+use Rattle.calls.specs.Loops.{LeadIn, leadInRoom}
+use Rattle.leading.specs.declared.Outcome.{Outcome}
+use Rattle.leading.specs.declared.Outcome.the-variants.{Joined, Apart, Unsettled}
+
+-- two plans that have passed their checks, and the number of commands
+pub record Plans (c : List ℕ) (conflicts : List (List ℕ)) (v w : List ℕ) (n : ℕ) : Type 0 where
+  pub first : Passed c conflicts v
+  pub second : Passed c conflicts w
+  pub many : n ≡ commands c
+
+-- rows to work in, for plans of at most so many bytes
+pub record Rooms (most : ℕ) (v w under link cycled row : List ℕ) : Type 0 where
+  pub first : length v ≤ most
+  pub second : length w ≤ most
+  pub unders : (48 * most ≤ length under) × (1024 ≤ length under)
+  pub links : (48 * most ≤ length link) × (1024 ≤ length link)
+  pub aside : 24 * most ≤ length cycled
+  pub rows : 48 * most ≤ length row
+
+-- the plans are joined, and the row now begins with a word, of so many letters, whose normal form is a lead-in
+pub record LeadWord (c v w row : List ℕ) (end : ℕ) : Type 0 where
+  pub joined : joined? (alphabet c) (letters v) (letters w) ≡ true
+  pub count : end ≡ length (take end row)
+  pub letters : Commands (commands c) (take end row)
+  pub short : end ≤ leadInRoom c v w
+  pub leads : LeadIn c v w (normalForm c (take end row))
+
+abbrev pub LeadsWord : List ℕ → List ℕ → List ℕ → List ℕ → Outcome → Type 0
+LeadsWord c v w row (Joined end) = LeadWord c v w row end
+LeadsWord c v w row Apart = joined? (alphabet c) (letters v) (letters w) ≡ false
+LeadsWord c v w row (Unsettled p) = ⊥
+
+-- the verdict and the final area: a lead-in at the start of the area and past it the area as it was, or the area as it
+-- was. No part of a core is unsettled after as many rounds as commands.
+pub data Told (c v w area : List ℕ) : Outcome → List ℕ → Type 0 where
+  joined : {u : List ℕ} → joined? (alphabet c) (letters v) (letters w) ≡ true → LeadIn c v w u
+      → Told c v w area (Joined (length u)) (u ++ drop (length u) area)
+  apart : joined? (alphabet c) (letters v) (letters w) ≡ false → Told c v w area Apart area

@@ -1,0 +1,53 @@
+-- Line 10 of document 01's table never holds: every part of a core is settled after N rounds.
+use Prim.Native.Nat.{ℕ, _≤_}
+use native.Mathlib.Omega.{arith}
+use mathlib.Core.Path.{_≡_, refl}
+use mathlib.Core.Bool.{true, false}
+use mathlib.Core.List.{List, [], _∷_, List·Memᴰ·head, List·Memᴰ·tail}
+use mathlib.Core.Option.{none}
+use lib.ListN.{length}
+use Rattle.words.specs.All.{All}
+use Rattle.conjugacy.specs.Core.{core}
+use Rattle.conjugacy.specs.CoreLaws.{core-all}
+use Rattle.conjugacy.specs.Part.{commands, apexes, part}
+use Rattle.conjugacy.specs.Settle.{split, settled}
+use Rattle.conjugacy.specs.AscendingLaws.{_∈_, Within}
+use Rattle.conjugacy.specs.CommandLaws.{all-occurs, commands-bounded}
+use Rattle.conjugacy.specs.PartLaws.{part-occurs, part-connected, apex-occurs}
+use Rattle.conjugacy.specs.RoundLaws.{settled-quiet}
+use Rattle.catalogue.specs.Catalogue as Catalogue
+use Rattle.plan.specs.Plan.{isCommand, Passing}
+use Rattle.plan.specs.Byte.{commandOf}
+use Rattle.plan.specs.Letters.{letters, alphabet}
+use Rattle.plan.specs.LettersLaws.{letters-commands}
+use Rattle.calls.specs.Loops.{isEmpty, stillLow, unsettled, unsettledLine}
+use Rattle.joining.specs.StrippedLaws.{commands-range}
+
+module _ (c : List ℕ) (n : ℕ) (x : List ℕ) (h : All (λ a. (1 ≤ commandOf a) × (commandOf a ≤ n)) x) where
+  -- no part has more than n commands
+  pub part-commands : (m : ℕ) → length (commands (alphabet c) (part (alphabet c) m x)) ≤ n
+  part-commands m = commands-bounded (alphabet c) n (part (alphabet c) m x)
+      (λ k o. all-occurs (alphabet c) (λ j. (1 ≤ j) × (j ≤ n)) x h k (part-occurs (alphabet c) m x o .0))
+
+  -- so n rounds are enough
+  pub part-quiet : {m : ℕ} → m ∈ apexes (alphabet c) x
+      → split (alphabet c) m [] (settled (alphabet c) m n (part (alphabet c) m x)) .0 ≡ []
+  part-quiet {m} i =
+      settled-quiet (alphabet c) m (part (alphabet c) m x) (part-connected (alphabet c) m x)
+      (apex-occurs (alphabet c) x i) n (omega (arith, part-commands m))
+
+module _ (c x : List ℕ) (h : All (λ a. (1 ≤ commandOf a) × (commandOf a ≤ Catalogue.commands c)) x) where
+  none-unsettled : (ms : List ℕ) → Within ms (apexes (alphabet c) x) → unsettled c ms x ≡ false
+  unfolding unsettled stillLow isEmpty
+  none-unsettled [] f = refl
+  none-unsettled (m ∷ ms) f =
+      rw (part-quiet c (Catalogue.commands c) x h (f m (List·Memᴰ·head refl)))
+      (none-unsettled ms (λ k i. f k (List·Memᴰ·tail i)))
+
+pub never-unsettled : (p : ℕ) (c v : List ℕ) → Catalogue.commands c ≤ 24 → Passing (Catalogue.commands c) v
+    → unsettledLine p c v ≡ none
+never-unsettled p c v l h =
+    let n = Catalogue.commands c in
+    let x = core (alphabet c) (letters v) in
+    let k = core-all (alphabet c) (λ b. isCommand n b ≡ true) (letters v) (letters-commands n v h) .1 in
+    rw (none-unsettled c x (commands-range n x l k) (apexes (alphabet c) x) (λ j i. i))

@@ -1,0 +1,67 @@
+-- Two cores: where other commands occur they are apart, and where the same occur their parts decide.
+use Prim.Native.Nat.{ℕ}
+use mathlib.Core.Path.{_≡_, refl, sym, _∙_, subst}
+use mathlib.Core.Bool.{Bool, true, false, not, _&&_, true≢false}
+use mathlib.Core.List.{List}
+use mathlib.Core.Logic.{_↔_}
+use Rattle.plan.specs.Letters.{alphabet}
+use Rattle.conjugacy.specs.Part.{commands, labels, label, apexes}
+use Rattle.conjugacy.specs.PartLaws.{label-same}
+use Rattle.conjugacy.specs.Decision.{alike?, parts-joined?, cores-joined?}
+use Rattle.conjugacy.specs.DecisionLaws.{alike-true, alike-refl}
+use Rattle.ringing.specs.PartLaws.{not-true}
+use Rattle.parts.specs.Flags.{Flags, LabelsOf}
+use Rattle.leading.specs.declared.Outcome.{Outcome}
+use Rattle.leading.specs.declared.Outcome.the-variants.{Joined, Apart, Unsettled}
+use Rattle.leading.specs.Lead.{Leads, Leadable, Coreable, CoresLead}
+
+not-false : (t : Bool) → not t ≡ false → t ≡ true
+not-false true e = refl
+not-false false e = sym e
+
+-- what the comparison of the flags tells
+pub tells-same : {P : Type 0} {r : Bool} → (r ≡ true) ↔ P → not r ≡ false → P
+tells-same {P} {r} t e = t .0 (not-false r e)
+
+module _ {c : List ℕ} {conflicts : List (List ℕ)} {x y : List ℕ} {rounds : ℕ} {under link cycled row : List ℕ} {at : ℕ}
+    (h : Coreable c conflicts x y rounds under link cycled row at) where
+  pub cores-apart : {r : Bool} → (r ≡ true) ↔ (commands (alphabet c) x ≡ commands (alphabet c) y) → not r ≡ true
+      → cores-joined? (alphabet c) x y ≡ false
+  unfolding cores-joined?
+  cores-apart {r} t e = go (alike? (commands (alphabet c) x) (commands (alphabet c) y)) refl
+    where
+      go : (s : Bool) → alike? (commands (alphabet c) x) (commands (alphabet c) y) ≡ s
+          → (s && parts-joined? (alphabet c) (apexes (alphabet c) x) x y) ≡ false
+      go true f =
+          let d = alike-true (commands (alphabet c) x) (commands (alphabet c) y) f in
+          absurd (true≢false (sym (t .1 d) ∙ not-true r e))
+      go false f = refl
+
+  module _ (same : commands (alphabet c) x ≡ commands (alphabet c) y) where
+    pub cores-leadable : {fs names : List ℕ} → Flags (commands (alphabet c) x) fs
+        → LabelsOf (labels (alphabet c) (commands (alphabet c) x)) names
+        → Leadable c conflicts x y fs names rounds under link cycled
+    unfolding label
+    cores-leadable {fs} {names} f l = record {
+      two = record {
+        first = record { cyclic = h .first; labelled = l };
+        second = record {
+          cyclic = h .second;
+          labelled = subst (λ (lab : ℕ → ℕ). LabelsOf lab names) (label-same (alphabet c) x y same) l;
+        };
+        same = same;
+      };
+      flags = f;
+      enough = h .enough;
+      sheets = h .sheets;
+    }
+
+    decided : cores-joined? (alphabet c) x y ≡ parts-joined? (alphabet c) (apexes (alphabet c) x) x y
+    unfolding cores-joined?
+    decided = rw (← same, alike-refl (commands (alphabet c) x))
+
+    pub cores-lead : (after : List ℕ) (o : Outcome) → Leads c x y (apexes (alphabet c) x) row at after o
+        → CoresLead c x y row at after o
+    cores-lead after (Joined end) d = record { joined = decided ∙ d .joined; written = d .written; ends = d .ends }
+    cores-lead after Apart d = decided ∙ d
+    cores-lead after (Unsettled p) d = d

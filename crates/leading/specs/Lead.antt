@@ -1,0 +1,125 @@
+-- What the lead-ins of the parts of two cores ask and give. They are written one after the other behind what stands in
+-- a row.
+use Prim.Native.Nat.{ℕ, zero, suc, _+_, _*_, _≤_}
+use mathlib.Core.Path.{_≡_}
+use mathlib.Core.Bool.{true, false, _&&_}
+use mathlib.Core.List.{List, [], _++_}
+use lib.ListN.{length, take, getD}
+use lib.Dec.{eqb}
+use Rattle.catalogue.specs.Catalogue as Catalogue
+use Rattle.words.specs.Group.{undo}
+use Rattle.plan.specs.Letters.{alphabet}
+use Rattle.conjugacy.specs.AscendingLaws.{_∈_}
+use Rattle.conjugacy.specs.Part.{chosen-step, commands, label, apexes, part}
+use Rattle.conjugacy.specs.PartLaws.{shares}
+use Rattle.conjugacy.specs.Rotation.{rotation}
+use Rattle.conjugacy.specs.Decision.{rotated?, parts-joined?, cores-joined?}
+use Rattle.conjugacy.specs.LeadIn.{place, parts-lead}
+use Rattle.parts.specs.Flags.{Flags}
+use Rattle.ringing.specs.Ring.{Cyclic, Labelled}
+use Rattle.leading.specs.declared.Outcome.{Outcome}
+use Rattle.leading.specs.declared.Outcome.the-variants.{Joined, Apart, Unsettled}
+
+-- the ring is a rotation of the other, and behind the first `at` bytes now stand, up to `end`, the ring up to the place
+-- at which they agree and the letters cycled, undone
+pub record Turned (c ring other cycled before : List ℕ) (at : ℕ) (after : List ℕ) (end : ℕ) : Type 0 where
+  pub joined : rotated? (alphabet c) ring other ≡ true
+  pub written : take end after
+      ≡ take at before ++ (take (place (rotation (alphabet c) ring other)) ring ++ undo (alphabet c) cycled [])
+  pub ends : end ≡ at + length (take (place (rotation (alphabet c) ring other)) ring ++ undo (alphabet c) cycled [])
+
+abbrev pub Turns : List ℕ → List ℕ → List ℕ → List ℕ → List ℕ → ℕ → List ℕ → Outcome → Type 0
+Turns c ring other cycled before at after (Joined end) = Turned c ring other cycled before at after end
+Turns c ring other cycled before at after Apart = rotated? (alphabet c) ring other ≡ false
+Turns c ring other cycled before at after (Unsettled p) = ⊥
+
+-- two cores in which the same commands occur
+pub record Two (c : List ℕ) (conflicts : List (List ℕ)) (x y labels : List ℕ) : Type 0 where
+  pub first : Labelled c conflicts x labels
+  pub second : Labelled c conflicts y labels
+  pub same : commands (alphabet c) x ≡ commands (alphabet c) y
+
+-- rows to work in, for words of the length of x and y and for the letters that settling y cycles
+pub record Sheets (x y : List ℕ) (rounds : ℕ) (under link cycled : List ℕ) : Type 0 where
+  pub long : 1024 ≤ length under
+  pub wide : 1024 ≤ length link
+  pub aside : rounds * length y ≤ length cycled
+
+-- one part: the apex is one of x, the rounds are as many as commands, and the row has room behind place `at`
+pub record Partable (c : List ℕ) (conflicts : List (List ℕ)) (x y labels : List ℕ) (apex rounds : ℕ)
+    (under link cycled row : List ℕ) (at : ℕ) : Type 0 where
+  pub two : Two c conflicts x y labels
+  pub apical : apex ∈ apexes (alphabet c) x
+  pub enough : rounds ≡ Catalogue.commands c
+  pub sheets : Sheets x y rounds under link cycled
+  pub room : at + 2 * rounds * length (part (alphabet c) apex x) ≤ length row
+
+-- the parts with these apexes are joined, and behind the first `at` bytes now stand their lead-ins, up to `end`
+pub record Led (c x y ms before : List ℕ) (at : ℕ) (after : List ℕ) (end : ℕ) : Type 0 where
+  pub joined : parts-joined? (alphabet c) ms x y ≡ true
+  pub written : take end after ≡ take at before ++ parts-lead (alphabet c) ms x y
+  pub ends : end ≡ at + length (parts-lead (alphabet c) ms x y)
+
+-- what is told of the parts with these apexes; every part is settled by so many rounds
+abbrev pub Leads : List ℕ → List ℕ → List ℕ → List ℕ → List ℕ → ℕ → List ℕ → Outcome → Type 0
+Leads c x y ms before at after (Joined end) = Led c x y ms before at after end
+Leads c x y ms before at after Apart = parts-joined? (alphabet c) ms x y ≡ false
+Leads c x y ms before at after (Unsettled p) = ⊥
+
+-- command k + 1, if it is flagged and its own label
+unfoldable pub apexAt : List ℕ → List ℕ → ℕ → List ℕ
+apexAt fs labels k = chosen-step (eqb (getD fs k 0) 1 && eqb (getD labels k 0) (k + 1)) (k + 1) []
+
+-- several parts: the flags tell of the commands that occur, and the rounds are as many as commands
+pub record Leadable (c : List ℕ) (conflicts : List (List ℕ)) (x y fs labels : List ℕ) (rounds : ℕ)
+    (under link cycled : List ℕ) : Type 0 where
+  pub two : Two c conflicts x y labels
+  pub flags : Flags (commands (alphabet c) x) fs
+  pub enough : rounds ≡ Catalogue.commands c
+  pub sheets : Sheets x y rounds under link cycled
+
+-- one command: the row has room behind place `at` for its part, if it is an apex
+pub record Placeable (c : List ℕ) (conflicts : List (List ℕ)) (x y fs labels : List ℕ) (k rounds : ℕ)
+    (under link cycled row : List ℕ) (at : ℕ) : Type 0 where
+  pub leadable : Leadable c conflicts x y fs labels rounds under link cycled
+  pub room : at + 2 * rounds * length (shares (alphabet c) (label (alphabet c) x) (apexAt fs labels k) x) ≤ length row
+
+-- two whole cores: the rounds are as many as commands, and the row has room behind place `at` for the lead-ins of all
+-- parts
+pub record Coreable (c : List ℕ) (conflicts : List (List ℕ)) (x y : List ℕ) (rounds : ℕ)
+    (under link cycled row : List ℕ) (at : ℕ) : Type 0 where
+  pub first : Cyclic c conflicts x
+  pub second : Cyclic c conflicts y
+  pub enough : rounds ≡ Catalogue.commands c
+  pub sheets : Sheets x y rounds under link cycled
+  pub room : at + 2 * rounds * length x ≤ length row
+
+-- the cores are joined, and behind the first `at` bytes now stand the lead-ins of their parts, up to `end`
+pub record CoresLed (c x y before : List ℕ) (at : ℕ) (after : List ℕ) (end : ℕ) : Type 0 where
+  pub joined : cores-joined? (alphabet c) x y ≡ true
+  pub written : take end after ≡ take at before ++ parts-lead (alphabet c) (apexes (alphabet c) x) x y
+  pub ends : end ≡ at + length (parts-lead (alphabet c) (apexes (alphabet c) x) x y)
+
+abbrev pub CoresLead : List ℕ → List ℕ → List ℕ → List ℕ → ℕ → List ℕ → Outcome → Type 0
+CoresLead c x y before at after (Joined end) = CoresLed c x y before at after end
+CoresLead c x y before at after Apart = cores-joined? (alphabet c) x y ≡ false
+CoresLead c x y before at after (Unsettled p) = ⊥
+
+-- an outcome that is no lead-in
+abbrev pub Stops : Outcome → Type 0
+Stops (Joined end) = ⊥
+Stops Apart = Unit {0}
+Stops (Unsettled p) = Unit {0}
+
+-- the apexes among n commands from k + 1 on
+unfoldable pub apexesFrom : List ℕ → List ℕ → ℕ → ℕ → List ℕ
+apexesFrom fs labels zero k = []
+apexesFrom fs labels (suc n) k = apexAt fs labels k ++ apexesFrom fs labels n (k + 1)
+
+-- the apexes up to command k are joined, and their lead-ins stand in the row
+pub record Sofar (c x y fs labels before : List ℕ) (at : ℕ) (after : List ℕ) (end k : ℕ) : Type 0 where
+  pub done : List ℕ
+  pub left : ℕ
+  pub count : left + k ≡ 24
+  pub all : done ++ apexesFrom fs labels left k ≡ apexes (alphabet c) x
+  pub led : Led c x y done before at after end
