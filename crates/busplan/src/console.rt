@@ -2,7 +2,7 @@
 // calls/specs/Codes.antt gives for each case of a call's answer.
 
 ghost use mathlib.Core.Path.{_≡_};
-ghost use Rattle.calls.specs.Codes.{lengthCode, equalCode, checkCode};
+ghost use Rattle.calls.specs.Codes.{lengthCode, equalCode, LoopedCode, checkCode};
 ghost use Rattle.calls.specs.Calls.{normalFormAnswer, normalFormArea, equalAnswer};
 ghost use Rattle.calls.specs.Loops.{checkAnswer, checkArea0, checkArea1};
 
@@ -21,6 +21,14 @@ pub extern "C" fn busplan_equal(catalogue: &[u8], v: &[u8], w: &[u8]) -> i64
     ensures { λ r. ⌜ r ≡ equalCode (equalAnswer (now (catalogue .entry)) (now (v .entry)) (now (w .entry))) ⌝ }
 {
     codes::equal_code(crate::equal(catalogue, v, w))
+}
+
+#[no_mangle]
+pub extern "C" fn busplan_loops(catalogue: &[u8], v: &[u8], w: &[u8], area: &mut [u8]) -> i64
+    ensures { λ r. ⌜ LoopedCode (now (catalogue .entry)) (now (v .entry)) (now (w .entry)) (now (area .entry)) r
+        (now (area .exit)) ⌝ }
+{
+    codes::loops_code(crate::loops(catalogue, v, w, area))
 }
 
 #[no_mangle]
