@@ -1,0 +1,72 @@
+-- `plans` is safe and ends: the measure is `6561 - p`, the invariant `count ≤ p`.
+use native.Mathlib.Omega.{arith}
+use mathlib.Core.Logic.{⊎-elim}
+use Prim.Native.Nat.{_-_, _≤_}
+use borrow.Author.Needs.{needs}
+use Rattle.cases.proofs.every.plans.Statement.{statement}
+use Rattle.cases.proofs.every.plans.Tie as tie
+
+abbrev Inv-loop : tie.InvT-loop
+Inv-loop c count₀ p₀ t4 count p = count ≤ p
+
+abbrev μ-loop : tie.MeasureT-loop
+μ-loop c count₀ p₀ t4 count p = 6561 - p
+
+loop-holds : tie.Need-loop-holds Inv-loop μ-loop
+loop-holds c = search needs
+
+slice-aggregate-form-agrees : tie.Need-slice-aggregate-form-agrees Inv-loop μ-loop
+slice-aggregate-form-agrees c = search needs
+
+form-agrees-requires : tie.Need-form-agrees-requires Inv-loop μ-loop
+form-agrees-requires c κs = search needs
+
+slice-aggregate-form-agrees-2 : tie.Need-slice-aggregate-form-agrees-2 Inv-loop μ-loop
+slice-aggregate-form-agrees-2 c = search needs
+
+form-agrees-requires-2 : tie.Need-form-agrees-requires-2 Inv-loop μ-loop
+form-agrees-requires-2 c κs = search needs
+
+add-count : tie.Need-add-count Inv-loop μ-loop
+add-count c = search needs
+
+add-p : tie.Need-add-p Inv-loop μ-loop
+add-p c = search needs
+
+loop-less : tie.Need-loop-less Inv-loop μ-loop
+loop-less c = search needs
+
+loop-again : tie.Need-loop-again Inv-loop μ-loop
+loop-again c = ⊎-elim (λ w. omega arith) (λ w. omega arith) (c .if1 .came)
+
+number-requires : tie.Need-number-requires Inv-loop μ-loop
+number-requires c κs = search needs
+
+slice-aggregate-text : tie.Need-slice-aggregate-text Inv-loop μ-loop
+slice-aggregate-text c = search needs
+
+text-requires : tie.Need-text-requires Inv-loop μ-loop
+text-requires c κs = search needs
+
+returns : tie.Need-returns Inv-loop μ-loop
+returns c = search needs
+
+pub plans-spec : {M : Type 1} → statement M
+plans-spec =
+    tie.close
+    (tie.spec
+    Inv-loop
+    μ-loop
+    loop-holds
+    slice-aggregate-form-agrees
+    form-agrees-requires
+    slice-aggregate-form-agrees-2
+    form-agrees-requires-2
+    add-count
+    add-p
+    loop-less
+    loop-again
+    number-requires
+    slice-aggregate-text
+    text-requires
+    returns)

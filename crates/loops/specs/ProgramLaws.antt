@@ -1,0 +1,168 @@
+-- Laws of the program's answer: its areas are large enough, and what the answers of the calls and the framing tell.
+use Prim.Native.Nat.{ℕ, _+_, _*_, _-_, _≤_}
+use native.Mathlib.Omega.{arith}
+use native.Mathlib.Nat.{mul-le-mul}
+use mathlib.Core.Path.{_≡_, refl, sym, _∙_, ap, ap₂}
+use mathlib.Core.Bool.{Bool, true, false}
+use mathlib.Core.List.{List, [], _∷_, _++_, append-nil}
+use mathlib.Core.Option.{Option, none, some}
+use lib.ListN.{length, take, drop}
+use borrow.Author.Tests.{le-ltb}
+use Rattle.refusal.specs.Line.{Line, line, lineOf, Answer, refused, given, firstLine, orElse}
+use Rattle.refusal.specs.LineLaws.{none-left, none-right}
+use Rattle.refusal.specs.declared.Refusal.{Refusal}
+use Rattle.conjugacy.specs.Decision.{joined?}
+use Rattle.catalogue.specs.Catalogue.{commands, catalogueLines}
+use Rattle.plan.specs.Plan.{planLines}
+use Rattle.plan.specs.PlanLaws.{lines-pass}
+use Rattle.plan.specs.Letters.{letters, alphabet}
+use Rattle.calls.specs.Answers.{toldWritten, toldLoops}
+use Rattle.calls.specs.Calls.{planLimit, areaLine, normalFormLines, coreForm, coreAnswer}
+use Rattle.calls.specs.CallLaws.{few-commands}
+use Rattle.calls.specs.Loops.{loopsLines, leadInRoom, unsettledLine, Looped, refuses, apart, joined}
+use Rattle.calls.specs.declared.Written.{Written}
+use Rattle.calls.specs.declared.Written.the-variants as written
+use Rattle.calls.specs.declared.Loops.{Loops}
+use Rattle.calls.specs.declared.Loops.the-variants as loops
+use Rattle.framing.specs.Framing.{frame}
+use Rattle.framing.specs.FramingLaws.{badly-tells, well-tells, Laid, laid-catalogue, laid-plan1, laid-plan2}
+use Rattle.framing.specs.declared.Frame.{Frame}
+use Rattle.framing.specs.declared.Frame.the-variants.{Badly, Well}
+use Rattle.framing.specs.declared.Places.{Places}
+use Rattle.loops.specs.Program.{
+  coreLines,
+  programLines,
+  coreVerdict,
+  joined-step,
+  loopsVerdict,
+  programAnswer,
+}
+
+-- Areas that are large enough
+
+-- a line can be left out if it does not hold where those before it do not
+left-out : (xs ys : List (Option Line)) (o : Option Line) → (firstLine xs ≡ none → o ≡ none)
+    → firstLine (xs ++ o ∷ ys) ≡ firstLine (xs ++ ys)
+left-out [] ys o h = rw (h refl)
+left-out (none ∷ xs) ys o h = left-out xs ys o h
+left-out (some l ∷ xs) ys o h = refl
+
+large : (need : ℕ) (area : List ℕ) → need ≤ length area → areaLine 0 need area ≡ none
+large need area h = rw (le-ltb (length area) need h)
+
+module _ (c v : List ℕ) where
+  plan1-short : firstLine (coreLines c v) ≡ none → length v ≤ planLimit
+  plan1-short e =
+      lines-pass 1 planLimit (commands c) v
+      .0 (none-right (catalogueLines c) (planLines 1 planLimit (commands c) v) e)
+      .0
+
+  pub core-enough : (area : List ℕ) → 1024 ≡ length area
+      → firstLine (normalFormLines c v area) ≡ firstLine (coreLines c v)
+  core-enough area l =
+      left-out (coreLines c v) [] (areaLine 0 (length v) area)
+      (λ e. large (length v) area (omega (arith, plan1-short e)))
+      ∙ ap firstLine (append-nil (coreLines c v))
+
+module _ (c v w : List ℕ) where
+  abbrev front : List (Option Line)
+  front = coreLines c v ++ planLines 2 planLimit (commands c) w
+
+  room-enough : firstLine front ≡ none → leadInRoom c v w ≤ 49152
+  room-enough e =
+      let e1 : firstLine (coreLines c v) ≡ none = none-left (coreLines c v) (planLines 2 planLimit (commands c) w) e in
+      let n : commands c ≤ 24 =
+      few-commands c (none-left (catalogueLines c) (planLines 1 planLimit (commands c) v) e1) in
+      let m : length w ≤ planLimit =
+      lines-pass 2 planLimit (commands c) w
+      .0 (none-right (coreLines c v) (planLines 2 planLimit (commands c) w) e)
+      .0 in
+      let s : length v + length w ≤ 2048 = omega (arith, plan1-short c v e1) in
+      mul-le-mul n s
+
+  pub loops-enough : (area : List ℕ) → 49152 ≡ length area
+      → firstLine (loopsLines c v w area) ≡ firstLine (programLines c v w)
+  loops-enough area l =
+      left-out front (unsettledLine 1 c v ∷ unsettledLine 2 c w ∷ []) (areaLine 0 (leadInRoom c v w) area)
+      (λ e. large (leadInRoom c v w) area (omega (arith, room-enough e)))
+
+-- What the core call's answer tells
+
+some-given : {A : Type 0} (o : Option Line) (a : A) {l : A} → given l ≡ orElse o a → given (some l) ≡ orElse o (some a)
+some-given none a e = cc
+some-given (some k) a e = absurd (let z : _≡_ {A = ℕ} 0 1 = cc in omega arith)
+
+some-refused : {A : Type 0} (o : Option Line) (a : A) {l : Line} → refused l ≡ orElse o a
+    → refused l ≡ orElse o (some a)
+some-refused none a e = absurd (let z : _≡_ {A = ℕ} 0 1 = cc in omega arith)
+some-refused (some k) a e = cc
+
+module _ (c v area : List ℕ) (h : 1024 ≡ length area) (r : Written) (t : toldWritten r ≡ coreAnswer c v area) where
+  told : {a : Answer ℕ} → toldWritten r ≡ a → a ≡ orElse (firstLine (coreLines c v)) (length (coreForm c v))
+  told e = sym e ∙ t ∙ ap (λ o. orElse o (length (coreForm c v))) (core-enough c v area h)
+
+  pub core-length : {l : ℕ} → r ≡ written.Length l → given (some l) ≡ coreVerdict c v
+  core-length {l} e = some-given (firstLine (coreLines c v)) (length (coreForm c v)) (told (ap toldWritten e))
+
+  pub core-refused : {f : Refusal} → r ≡ written.Refused f → refused (lineOf f) ≡ coreVerdict c v
+  core-refused {f} e = some-refused (firstLine (coreLines c v)) (length (coreForm c v)) (told (ap toldWritten e))
+
+-- What the loops call's answer tells
+
+-- the call's answer, with n for the length of the lead-in
+abbrev recount : Answer (Option ℕ) → ℕ → Answer (Option ℕ)
+recount (refused l) n = refused l
+recount (given none) n = given none
+recount (given (some l)) n = given (some n)
+
+module _ (c v w area : List ℕ) (h : 49152 ≡ length area) where
+  first : {o : Option Line} → firstLine (loopsLines c v w area) ≡ o → firstLine (programLines c v w) ≡ o
+  first e = sym (loops-enough c v w area h) ∙ e
+
+  verdict : {o : Option Line} {b : Bool} → firstLine (loopsLines c v w area) ≡ o
+      → joined? (alphabet c) (letters v) (letters w) ≡ b
+      → loopsVerdict c v w ≡ orElse o (joined-step b (length (coreForm c v)))
+  verdict e j = ap₂ (λ o b. orElse o (joined-step b (length (coreForm c v)))) (first e) j
+
+  counted : {a : Answer (Option ℕ)} {after : List ℕ} → Looped c v w area a after
+      → recount a (length (coreForm c v)) ≡ loopsVerdict c v w
+  counted (refuses e) = sym (verdict e refl)
+  counted (apart e j) = sym (verdict e j)
+  counted (joined e j k) = sym (verdict e j)
+
+  core-passes : {a : Answer (Option ℕ)} {after : List ℕ} {l : ℕ} → Looped c v w area a after → a ≡ given (some l)
+      → firstLine (coreLines c v) ≡ none
+  core-passes (refuses e) k = absurd (let z : _≡_ {A = ℕ} 0 1 = cc in omega arith)
+  core-passes (apart e j) k = absurd (let z : _≡_ {A = ℕ} 0 1 = cc in omega arith)
+  core-passes (joined e j i) k =
+      none-left (coreLines c v) (planLines 2 planLimit (commands c) w)
+      (none-left (front c v w) (unsettledLine 1 c v ∷ unsettledLine 2 c w ∷ []) (first e))
+
+  module _ {r : Loops} {after : List ℕ} (d : Looped c v w area (toldLoops r) after) where
+    pub loops-joined : {l : ℕ} → r ≡ loops.Joined l → coreVerdict c v ≡ loopsVerdict c v w
+    loops-joined e =
+        ap (λ o. orElse o (some (length (coreForm c v)))) (core-passes d (ap toldLoops e))
+        ∙ sym (ap (λ s. recount (toldLoops s) (length (coreForm c v))) e)
+        ∙ counted d
+
+    pub loops-apart : r ≡ loops.Apart → given none ≡ loopsVerdict c v w
+    loops-apart e = sym (ap (λ s. recount (toldLoops s) (length (coreForm c v))) e) ∙ counted d
+
+    pub loops-refused : {f : Refusal} → r ≡ loops.Refused f → refused (lineOf f) ≡ loopsVerdict c v w
+    loops-refused e = sym (ap (λ s. recount (toldLoops s) (length (coreForm c v))) e) ∙ counted d
+
+-- What the framing tells
+
+module _ (s : List ℕ) {r : Frame} (e : r ≡ frame s) where
+  pub badly-answer : (f : Refusal) → lineOf f ≡ line 11 0 0 → r ≡ Badly → refused (lineOf f) ≡ programAnswer s
+  badly-answer f k b = rw (badly-tells s (sym b ∙ e)) (ap refused k)
+
+  pub well-laid : {p : Places} → r ≡ Well p → Laid s p
+  well-laid {p} b = well-tells s p (sym b ∙ e)
+
+pub well-answer : (s : List ℕ) (p : Places) (l : Laid s p)
+    → loopsVerdict (take (p .first) s) (take (p .second - (p .first + 2)) (drop (p .first + 2) s))
+    (take (length s - (p .second + 2)) (drop (p .second + 2) s))
+    ≡ programAnswer s
+well-answer s p l =
+    rw (laid-catalogue s p l, laid-plan1 s p l, laid-plan2 s p l, l .well)
