@@ -1,5 +1,5 @@
-// The calls as the console makes them from C, over byte slices: each a pointer and a length. The answer is a number, which
-// calls/specs/Codes.antt gives for each case of a call's answer.
+// The calls as the console makes them from C, over byte slices: each a pointer and a length. The answer is a number,
+// which calls/specs/Codes.antt gives for each case of a call's answer.
 
 ghost use mathlib.Core.Path.{_≡_};
 ghost use Rattle.calls.specs.Codes.{lengthCode, equalCode, LoopedCode, checkCode};

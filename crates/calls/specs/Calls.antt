@@ -1,5 +1,5 @@
--- The calls, as document 01 words them: for each the lines of the table that can refuse it, in their order, and then its
--- answer and the final bytes of its area from what is handed in and the area as it was.
+-- The calls, as document 01 words them: for each the lines of the table that can refuse it, in their order, and then
+-- its answer and the final bytes of its area from what is handed in and the area as it was.
 use Prim.Native.Nat.{ℕ}
 use mathlib.Core.Bool.{Bool, true, false, _&&_}
 use mathlib.Core.List.{List, [], _∷_, _++_}

@@ -33,7 +33,8 @@ use Rattle.conjugacy.specs.Part as Part
 use Rattle.conjugacy.specs.Filter.{filter-step, filter}
 use Rattle.conjugacy.specs.Settle.{hit, raise, put, split, settled-step, settled, ring}
 use Rattle.conjugacy.specs.Rotation.{agree-step, agree, search-step, search, rotation}
-use Rattle.conjugacy.specs.Decision.{alike?, found?, settled-ring, part-ring, rotated?, parts-joined?, cores-joined?, joined?}
+use Rattle.conjugacy.specs.Decision.{alike?, found?, settled-ring, part-ring, rotated?, parts-joined?}
+use Rattle.conjugacy.specs.Decision.{cores-joined?, joined?}
 use Rattle.catalogue.specs.Catalogue.{ends, follow, stands}
 use Rattle.catalogue.specs.Conflict.{conflict}
 use Rattle.plan.specs.Plan.{isCommand, passes}

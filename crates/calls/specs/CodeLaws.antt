@@ -20,8 +20,8 @@ use Rattle.calls.specs.Calls.{planLimit, areaLine, normalFormLines, norm
 use Rattle.calls.specs.CallLaws.{answer-given, few-commands}
 use Rattle.calls.specs.Loops.{leadInRoom, leadInLimit, unsettledLine, loopsLines, Looped, refuses, apart, joined}
 
-pub written-length : (c v area : List ℕ) {r : Written} (l : ℕ) → toldWritten r ≡ normalFormAnswer c v area → r ≡ Length l
-    → l ≤ length v
+pub written-length : (c v area : List ℕ) {r : Written} (l : ℕ)
+    → toldWritten r ≡ normalFormAnswer c v area → r ≡ Length l → l ≤ length v
 written-length c v area l e k =
     let o = firstLine (normalFormLines c v area) in
     let h = answer-given o (length (normalForm c v)) l (sym e ∙ ap toldWritten k) in
@@ -33,7 +33,9 @@ room-limit c v w area e =
     let n = commands c in
     let ls = catalogueLines c ++ planLines 1 planLimit n v in
     let late = areaLine 0 (leadInRoom c v w) area ∷ unsettledLine 1 c v ∷ unsettledLine 2 c w ∷ [] in
-    let both : firstLine (ls ++ planLines 2 planLimit n w) ≡ none = none-left (ls ++ planLines 2 planLimit n w) late e in
+    let both : firstLine (ls ++ planLines 2 planLimit n w) ≡ none =
+        none-left (ls ++ planLines 2 planLimit n w) late e
+    in
     let one : firstLine ls ≡ none = none-left ls (planLines 2 planLimit n w) both in
     let k = few-commands c (none-left (catalogueLines c) (planLines 1 planLimit n v) one) in
     let i = lines-pass 1 planLimit n v .0 (none-right (catalogueLines c) (planLines 1 planLimit n v) one) .0 in

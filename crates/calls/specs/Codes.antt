@@ -1,5 +1,5 @@
--- What the console gets for each answer: a length, or yes (1) or no (0); for loops the lead-in's length plus 1, or 0 for
--- apart; and minus the refusal number.
+-- What the console gets for each answer: a length, or yes (1) or no (0); for loops the lead-in's length plus 1, or 0
+-- for apart; and minus the refusal number.
 use Prim.Native.Nat.{ℕ, suc}
 use mathlib.Core.Path.{_≡_}
 use mathlib.Core.Bool.{Bool, true, false}

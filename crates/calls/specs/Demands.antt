@@ -1,5 +1,6 @@
--- What was bought: the demands, as theorems over the definitions that the calls' contracts cite (Calls.antt). Each call's
--- contract says that the call, on any bytes, answers what its definition says and leaves its area as its definition says.
+-- What was bought: the demands, as theorems over the definitions that the calls' contracts cite (Calls.antt). Each
+-- call's contract says that the call, on any bytes, answers what its definition says and leaves its area as its
+-- definition says.
 use Prim.Native.Nat.{ℕ, _≤_}
 use mathlib.Core.Path.{_≡_, refl, sym, _∙_, ap}
 use mathlib.Core.Bool.{Bool, true}
@@ -37,8 +38,8 @@ use Rattle.plan.specs.Join.{Joins}
 use Rattle.plan.specs.JoinLaws.{joins-check}
 use Rattle.calls.specs.CallLaws.{answer-refused, answer-given, few-commands, same-bytes}
 
--- Demand 1. A call is refused exactly by the first line of its table that holds, and gives a result exactly if none does;
--- a refusal leaves the area as it was.
+-- Demand 1. A call is refused exactly by the first line of its table that holds, and gives a result exactly if none
+-- does; a refusal leaves the area as it was.
 
 pub refused-exactly : {A : Type 0} (ls : List (Option Line)) (a : A) (l : Line)
     → (orElse (firstLine ls) a ≡ refused l) ↔ FirstHolds l ls
@@ -79,8 +80,8 @@ equal-demand c v w b e = (
         equal-normal c v w (lines-pass 1 planLimit (commands c) v .0 p .1)
         (lines-pass 2 planLimit (commands c) w .0 q .1)
 
--- Demand 2, normal form: of a plan that is not refused, the first L bytes of the area are a plan that is equal to it, no
--- longer than any equal plan, and the first of the equal plans of that length.
+-- Demand 2, normal form: of a plan that is not refused, the first L bytes of the area are a plan that is equal to it,
+-- no longer than any equal plan, and the first of the equal plans of that length.
 
 pub record Shortest (c v z : List ℕ) : Type 0 where
   pub equal : Equal c z v
@@ -117,9 +118,9 @@ normal-form-demand c v area l e =
     few : commands c ≤ 127
     few = omega (arith, few-commands c (none-left (catalogueLines c) (planLines 1 planLimit (commands c) v) early))
 
--- Demand 3, loops: an answer that is no refusal says joined exactly if some plan u of any length joins v to w, and apart
--- exactly if none does. With each joined pair comes one such u: it is a normal form, has at most N(n + m) letters, and
--- fills the first L bytes of the area.
+-- Demand 3, loops: an answer that is no refusal says joined exactly if some plan u of any length joins v to w, and
+-- apart exactly if none does. With each joined pair comes one such u: it is a normal form, has at most N(n + m)
+-- letters, and fills the first L bytes of the area.
 
 pub record Loops (c v w : List ℕ) (o : Option ℕ) : Type 0 where
   pub joined : ((l : ℕ) × (o ≡ some l)) ↔ ((u : List ℕ) × Joins c v w u)

@@ -1,5 +1,5 @@
--- The loops call and the lead-in check, as document 01 words them: the lines of the table that can refuse each, its answer,
--- and the final bytes of its areas. Only the lead-in of two joined loops is left free.
+-- The loops call and the lead-in check, as document 01 words them: the lines of the table that can refuse each, its
+-- answer, and the final bytes of its areas. Only the lead-in of two joined loops is left free.
 use Prim.Native.Nat.{ℕ, _+_, _*_, _≤_}
 use mathlib.Core.Path.{_≡_}
 use mathlib.Core.Bool.{Bool, true, false, _||_}
@@ -39,7 +39,8 @@ unsettled c (m ∷ ms) x =
 -- line 10: a part of the core of plan p is unsettled after N rounds
 abbrev pub unsettledLine : ℕ → List ℕ → List ℕ → Option Line
 unsettledLine p c v =
-    holds (unsettled c (apexes (alphabet c) (core (alphabet c) (letters v))) (core (alphabet c) (letters v))) (line 10 p 0)
+    let x = core (alphabet c) (letters v) in
+    holds (unsettled c (apexes (alphabet c) x) x) (line 10 p 0)
 
 -- the room of a lead-in: N(n + m)
 abbrev pub leadInRoom : List ℕ → List ℕ → List ℕ → ℕ

@@ -1,5 +1,6 @@
-// What the calls answer: the types of their answers. specs/Calls.antt and specs/Loops.antt define each call's answer and
-// the bytes it leaves, specs/Demands.antt shows what that is worth, specs/Cases.antt holds document 01's starred cases.
+// What the calls answer: the types of their answers. specs/Calls.antt and specs/Loops.antt define each call's answer
+// and the bytes it leaves, specs/Demands.antt shows what that is worth, specs/Cases.antt holds document 01's starred
+// cases.
 
 use refusal::Refusal;
 

@@ -84,7 +84,8 @@ module _ (c : List ℕ) where
       lines-pass p limit (commands c) v .0 (none-right ls (planLines p limit (commands c) v) e)
 
 module _ {c : List ℕ} {rows : List (List ℕ)} where
-  pub first-entered : {s r : Checked} (v : List ℕ) → Reading c rows s → (Told c (catalogueLines c) s → Told c (oneLines c v) r)
+  pub first-entered : {s r : Checked} (v : List ℕ) → Reading c rows s
+      → (Told c (catalogueLines c) s → Told c (oneLines c v) r)
       → OnePlan c v rows r
   first-entered v d f =
       record {

@@ -1,5 +1,5 @@
-// The checks that every call goes through first: the catalogue, then its plans in their order. Passed carries the number of
-// commands, and then the rows hold the conflicts.
+// The checks that every call goes through first: the catalogue, then its plans in their order. Passed carries the
+// number of commands, and then the rows hold the conflicts.
 
 ghost use Prim.Native.Nat.{ℕ};
 ghost use mathlib.Core.List.{List, _++_};

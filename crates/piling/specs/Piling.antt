@@ -1,5 +1,6 @@
--- A piling as arrays: 24 rows of 1,024 beads, bottoms first, beside 24 heights. The bead of a letter on the stack of its
--- own command is its byte, so + is k and − is 128 + k; every other bead is 0, and so is all above a stack's height.
+-- A piling as arrays: 24 rows of 1,024 beads, bottoms first, beside 24 heights. The bead of a letter on the stack of
+-- its own command is its byte, so + is k and − is 128 + k; every other bead is 0, and so is all above a stack's
+-- height.
 use Prim.Native.Nat.{ℕ, _+_, _<_, _≤_}
 use mathlib.Core.Path.{_≡_}
 use mathlib.Core.List.{List, [], _∷_, reverse}

@@ -80,7 +80,8 @@ module _ (c : List ℕ) where
   kept-undo : (u v : List ℕ) → kept c (undo (alphabet c) u v) ≡ undo (alphabet c) (kept c u) (kept c v)
   unfolding kept letters-step undo
   kept-undo [] v = refl
-  kept-undo (a ∷ u) v = kept-undo u (undone a ∷ v) ∙ rw (isCommand-undone (commands c) a) (go (isCommand (commands c) a))
+  kept-undo (a ∷ u) v =
+      kept-undo u (undone a ∷ v) ∙ rw (isCommand-undone (commands c) a) (go (isCommand (commands c) a))
     where
       go : (t : Bool) → undo (alphabet c) (kept c u) (letters-step (not t) (undone a) (kept c v))
           ≡ undo (alphabet c) (letters-step (not t) a (kept c u)) (kept c v)

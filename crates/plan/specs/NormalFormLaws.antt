@@ -43,7 +43,8 @@ letters-full (b ∷ v) e = go (eqb b 0) refl (letters-full v)
   where
     go : (t : Bool) → eqb b 0 ≡ t → (length (letters v) ≡ length v → letters v ≡ v) → letters (b ∷ v) ≡ b ∷ v
     go true z f = absurd (omega (arith, letters-length v, ap length (sym (letters-filler b v z)) ∙ e))
-    go false z f = letters-letter b v z ∙ ap (λ x. b ∷ x) (f (omega (arith, ap length (sym (letters-letter b v z)) ∙ e)))
+    go false z f =
+        letters-letter b v z ∙ ap (λ x. b ∷ x) (f (omega (arith, ap length (sym (letters-letter b v z)) ∙ e)))
 
 module _ (c : List ℕ) where
   pub normal-length : (v : List ℕ) → length (normalForm c v) ≤ length v

@@ -20,7 +20,8 @@ enum-told c = search needs
 returns : tie.Need-returns
 returns c =
     let s = c .before .before .before in
-    λ k ls d. then-more d (planLines (s .args .number) (s .args .limit) (commands k) (s .args .plan .now)) (c .enum-told .given .1)
+    λ k ls d.
+    then-more d (planLines (s .args .number) (s .args .limit) (commands k) (s .args .plan .now)) (c .enum-told .given .1)
 
 -- src/lib.rt:23:9
 check-requires : tie.Need-check-requires
@@ -39,7 +40,8 @@ returns-2 c =
     let a = c .before .before in
     let e = a .before .before in
     let s = e .before .before .before in
-    λ k ls d. then-refused d (s .args .number) (s .args .limit) (s .args .plan .now) (e .earlier .given .1) (a .check .result)
+    λ k ls d.
+    then-refused d (s .args .number) (s .args .limit) (s .args .plan .now) (e .earlier .given .1) (a .check .result)
     (a .check .ensures) (c .enum-told3 .given .1)
 
 -- src/lib.rt:16:1
@@ -48,7 +50,8 @@ returns-3 c =
     let a = c .before .before in
     let e = a .before .before in
     let s = e .before .before .before in
-    λ k ls d. then-passed d (s .args .number) (s .args .limit) (s .args .plan .now) (e .earlier .given .1) (a .check .result)
+    λ k ls d.
+    then-passed d (s .args .number) (s .args .limit) (s .args .plan .now) (e .earlier .given .1) (a .check .result)
     (a .check .ensures) (c .enum-told2 .given .1)
 
 pub next-plan-spec : {M : Type 1} → statement M

@@ -21,7 +21,9 @@ returns : tie.Need-returns
 returns c =
     let a = c .before in
     let s = a .before .before .before .before in
-    first-entered (s .args .plan .now) (a .read .ensures) (c .next-plan .ensures (s .args .catalogue .now) (catalogueLines (s .args .catalogue .now)))
+    let k = s .args .catalogue .now in
+    first-entered (s .args .plan .now) (a .read .ensures)
+    (c .next-plan .ensures k (catalogueLines k))
 
 pub one-plan-spec : {M : Type 1} → statement M
 one-plan-spec = tie.close (tie.spec read-requires next-plan-requires returns)

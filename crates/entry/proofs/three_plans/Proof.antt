@@ -21,7 +21,9 @@ returns : tie.Need-returns
 returns c =
     let a = c .before in
     let s = a .before .before .before .before .before .before in
-    third-entered (s .args .u .now) (a .two-plans .ensures) (c .next-plan .ensures (s .args .catalogue .now) (twoLines (s .args .catalogue .now) (s .args .v .now) (s .args .w .now)))
+    let k = s .args .catalogue .now in
+    third-entered (s .args .u .now) (a .two-plans .ensures)
+    (c .next-plan .ensures k (twoLines k (s .args .v .now) (s .args .w .now)))
 
 pub three-plans-spec : {M : Type 1} → statement M
 three-plans-spec = tie.close (tie.spec two-plans-requires next-plan-requires returns)

@@ -21,7 +21,9 @@ returns : tie.Need-returns
 returns c =
     let a = c .before in
     let s = a .before .before .before .before .before in
-    second-entered (s .args .w .now) (a .one-plan .ensures) (c .next-plan .ensures (s .args .catalogue .now) (oneLines (s .args .catalogue .now) (s .args .v .now)))
+    let k = s .args .catalogue .now in
+    second-entered (s .args .w .now) (a .one-plan .ensures)
+    (c .next-plan .ensures k (oneLines k (s .args .v .now)))
 
 pub two-plans-spec : {M : Type 1} → statement M
 two-plans-spec = tie.close (tie.spec one-plan-requires next-plan-requires returns)
