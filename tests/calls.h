@@ -36,26 +36,15 @@ static inline size_t room(const struct question *q, unsigned area) {
 
 #define PUT(s) (s).at, (s).size
 
-static inline int64_t ask_library(const struct question *q, const struct area *area) {
-    switch (q->call) {
-    case NORMAL_FORM: return busplan_normal_form(PUT(q->catalogue), PUT(q->plan[0]), PUT(area[0]));
-    case EQUAL: return busplan_equal(PUT(q->catalogue), PUT(q->plan[0]), PUT(q->plan[1]));
-    case LOOPS: return busplan_loops(PUT(q->catalogue), PUT(q->plan[0]), PUT(q->plan[1]), PUT(area[0]));
-    default: return busplan_lead_in_check(PUT(q->catalogue), PUT(q->plan[0]), PUT(q->plan[1]), PUT(q->plan[2]),
-                                          PUT(area[0]), PUT(area[1]));
-    }
-}
+/* Puts a question to the four calls whose names begin with prefix. */
+#define ASK(prefix, q, area) \
+    ((q)->call == NORMAL_FORM ? prefix##_normal_form(PUT((q)->catalogue), PUT((q)->plan[0]), PUT((area)[0])) \
+     : (q)->call == EQUAL ? prefix##_equal(PUT((q)->catalogue), PUT((q)->plan[0]), PUT((q)->plan[1])) \
+     : (q)->call == LOOPS ? prefix##_loops(PUT((q)->catalogue), PUT((q)->plan[0]), PUT((q)->plan[1]), PUT((area)[0])) \
+     : prefix##_lead_in_check(PUT((q)->catalogue), PUT((q)->plan[0]), PUT((q)->plan[1]), PUT((q)->plan[2]), \
+                              PUT((area)[0]), PUT((area)[1])))
 
-static inline int64_t ask_solver(const struct question *q, const struct area *area) {
-    switch (q->call) {
-    case NORMAL_FORM: return solver_normal_form(PUT(q->catalogue), PUT(q->plan[0]), PUT(area[0]));
-    case EQUAL: return solver_equal(PUT(q->catalogue), PUT(q->plan[0]), PUT(q->plan[1]));
-    case LOOPS: return solver_loops(PUT(q->catalogue), PUT(q->plan[0]), PUT(q->plan[1]), PUT(area[0]));
-    default: return solver_lead_in_check(PUT(q->catalogue), PUT(q->plan[0]), PUT(q->plan[1]), PUT(q->plan[2]),
-                                         PUT(area[0]), PUT(area[1]));
-    }
-}
-
-#undef PUT
+static inline int64_t ask_library(const struct question *q, const struct area *area) { return ASK(busplan, q, area); }
+static inline int64_t ask_solver(const struct question *q, const struct area *area) { return ASK(solver, q, area); }
 
 #endif
