@@ -34,7 +34,7 @@ room-limit c v w area e =
     let ls = catalogueLines c ++ planLines 1 planLimit n v in
     let late = areaLine 0 (leadInRoom c v w) area ∷ unsettledLine 1 c v ∷ unsettledLine 2 c w ∷ [] in
     let both : firstLine (ls ++ planLines 2 planLimit n w) ≡ none =
-        none-left (ls ++ planLines 2 planLimit n w) late e
+    none-left (ls ++ planLines 2 planLimit n w) late e
     in
     let one : firstLine ls ≡ none = none-left ls (planLines 2 planLimit n w) both in
     let k = few-commands c (none-left (catalogueLines c) (planLines 1 planLimit n v) one) in

@@ -5,17 +5,20 @@ use native.Mathlib.Numerals.{add-one}
 use native.Mathlib.Omega.{arith}
 use mathlib.Core.Path.{_≡_, refl, sym, _∙_, ap, ap₂}
 use mathlib.Core.Bool.{Bool, true, false, not, _||_, _&&_, or-self, and-true, and-false}
+use mathlib.Core.Logic.{_⊎_, inl, inr}
 use mathlib.Core.List.{List, [], _∷_}
 use lib.ListN.{getD}
 use lib.Dec.{eqb, ltb, leb, eqb·suc-suc}
 use borrow.Author.Tests.{eq-eqb, ne-eqb, lt-ltb, le-ltb, lt-leb}
 use Rattle.catalogue.specs.Catalogue.{commands, records, head, headPlace, command, next, ends, follow, chain, stands}
 use Rattle.catalogue.specs.Conflict.{bit, conflict, Conflicts}
-use Rattle.chains.specs.Marks.{cell, Shape, Blank, pair, pairs, diagonal, Met}
+use Rattle.chains.specs.Marks.{cell, Shape, Blank, pair, pairs, note, notes, diagonal, Met}
+use Rattle.chains.specs.Known.{met, Chained}
 use Rattle.chains.specs.MarksLaws.{
   Fit,
   over,
   over-bit,
+  put-shape,
   pair-shape,
   pairs-shape,
   pairs-cell,
@@ -45,6 +48,11 @@ pub record Walking (c : List ℕ) (a : ℕ) (rows₀ rows : List (List ℕ)) (le
   pub ending : ends c left at ≡ ends c (records c) (head c a)
   pub marks : pairs rows a (follow c left at) ≡ pairs rows₀ a (chain c a)
 
+-- the same for the notes in row a
+pub record Noting (c : List ℕ) (a : ℕ) (own₀ own : List (List ℕ)) (left at : ℕ) : Type 0 where
+  pub shape : Shape own
+  pub notes : notes own a (follow c left at) ≡ notes own₀ a (chain c a)
+
 module _ (c : List ℕ) (s : Sound c) (a : ℕ) (la : 1 ≤ a) (ha : a ≤ commands c) where
   pub walk-start : (rows : List (List ℕ)) → Shape rows → Walking c a rows rows (records c) (getD c (headPlace a) 0)
   walk-start rows sh =
@@ -54,6 +62,9 @@ module _ (c : List ℕ) (s : Sound c) (a : ℕ) (la : 1 ≤ a) (ha : a ≤ comma
         ending = rw (head-at c a ha);
         marks = rw (head-at c a ha);
       }
+
+  pub note-start : (own : List (List ℕ)) → Shape own → Noting c a own own (records c) (getD c (headPlace a) 0)
+  note-start own sh = record { shape = sh; notes = rw (head-at c a ha) }
 
   pub walk-again : {rows₀ rows : List (List ℕ)} {left at : ℕ} {rows' : List (List ℕ)}
       → Walking c a rows₀ rows left at → 0 < left → 0 < at → rows' ≡ pair rows a (command c at)
@@ -88,18 +99,32 @@ module _ (c : List ℕ) (s : Sound c) (a : ℕ) (la : 1 ≤ a) (ha : a ≤ comma
   walk-spent {left = zero} {at = suc i} w e = (ne-eqb (suc i) 0 (omega arith) ∙ w .ending, w .marks)
   walk-spent {left = suc n} w e = absurd (omega arith)
 
+  pub note-again : {own₀ own : List (List ℕ)} {left at : ℕ} {own' : List (List ℕ)}
+      → Noting c a own₀ own left at → 0 < left → 0 < at → at ≤ records c → own' ≡ note own a (command c at)
+      → Noting c a own₀ own' (left - 1) (next c at)
+  unfolding follow notes
+  note-again {left = zero} w hl ht h e = absurd (omega arith)
+  note-again {left = suc n} {at = zero} w hl ht h e = absurd (omega arith)
+  note-again {own = own} {left = suc n} {at = suc i} w hl ht h e =
+      let m : suc n - 1 ≡ n = omega arith in
+      let f = command-fit c s (suc i) ht h in
+      rw (m, e)
+      (record {
+        shape = put-shape own (w .shape) (a - 1) (command c (suc i) - 1) (omega (arith, s .framed .few)) (omega arith);
+        notes = w .notes;
+      })
+
+  pub note-ended : {own₀ own : List (List ℕ)} {left at : ℕ} → Noting c a own₀ own left at → (at ≡ 0) ⊎ (left ≡ 0)
+      → own ≡ notes own₀ a (chain c a)
+  unfolding follow notes
+  note-ended {left = zero} w e = w .notes
+  note-ended {left = suc n} {at = zero} w e = w .notes
+  note-ended {left = suc n} {at = suc i} w (inl e) = absurd (omega arith)
+  note-ended {left = suc n} {at = suc i} w (inr e) = absurd (omega arith)
+
 -- the test of line 5
 abbrev pub endless : List ℕ → ℕ → Bool
 endless c a = not (ends c (records c) (head c a))
-
--- command i + 1 or j + 1 is below a and has the other in its chain
-abbrev pub met : List ℕ → ℕ → ℕ → ℕ → Bool
-met c a i j = (ltb (i + 1) a && stands (j + 1) (chain c (i + 1))) || (ltb (j + 1) a && stands (i + 1) (chain c (j + 1)))
-
--- the marks after the chains of the commands below a
-pub record Chained (c : List ℕ) (a : ℕ) (rows : List (List ℕ)) : Type 0 where
-  pub shape : Shape rows
-  pub marks : (i j : ℕ) → i < 24 → j < 24 → cell rows i j ≡ bit (met c a i j)
 
 merge-or : (ei li ej lj : Bool) → (ej || (ei || (li || lj))) ≡ ((ei || li) || (ej || lj))
 merge-or true li true lj = refl
@@ -131,21 +156,22 @@ chained-start c b =
           b .clear i j hi hj ∙ rw (le-ltb (i + 1) 1 (omega arith), le-ltb (j + 1) 1 (omega arith));
     }
 
+-- the commands that were marked are those of the chain, in whatever order
 pub chained-again : (c : List ℕ) → Sound c → (a : ℕ) → 1 ≤ a → a ≤ commands c → {rows rows' : List (List ℕ)}
-    → Chained c a rows → rows' ≡ pairs rows a (chain c a) → Chained c (a + 1) rows'
-chained-again c s a la ha {rows} m e =
-    rw e (record { shape = pairs-shape a room (chain c a) rows fit (m .shape); marks = marks })
+    → (bs : List ℕ) → Fit bs → ((x : ℕ) → 1 ≤ x → x ≤ 24 → stands x bs ≡ stands x (chain c a))
+    → Chained c a rows → rows' ≡ pairs rows a bs → Chained c (a + 1) rows'
+chained-again c s a la ha {rows} bs fit same m e =
+    rw e (record { shape = pairs-shape a room bs rows fit (m .shape); marks = marks })
   where
     room : (1 ≤ a) × (a ≤ 24)
     room = (la, omega (arith, s .framed .few))
 
-    fit : Fit (chain c a)
-    fit = follow-fit c s (records c) (head c a) (s .heads a la ha)
-
-    marks : (i j : ℕ) → i < 24 → j < 24 → cell (pairs rows a (chain c a)) i j ≡ bit (met c (a + 1) i j)
+    marks : (i j : ℕ) → i < 24 → j < 24 → cell (pairs rows a bs) i j ≡ bit (met c (a + 1) i j)
     marks i j hi hj =
         rw (
-          pairs-cell a room (chain c a) rows fit (m .shape) i j (met c a i j) (m .marks i j hi hj),
+          pairs-cell a room bs rows fit (m .shape) i j (met c a i j) (m .marks i j hi hj),
+          same (i + 1) (omega arith) (omega arith),
+          same (j + 1) (omega arith) (omega arith),
           at-chain c (j + 1) a (i + 1),
           at-chain c (i + 1) a (j + 1),
           add-one a,

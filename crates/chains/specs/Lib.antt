@@ -1,4 +1,6 @@
 pub mod ChainLaws
+pub mod Known
+pub mod KnownLaws
 pub mod Marks
 pub mod MarksLaws
 pub mod ReadLaws

@@ -29,6 +29,27 @@ unfoldable pub pairs : List (List ℕ) → ℕ → List ℕ → List (List ℕ)
 pairs rows a [] = rows
 pairs rows a (b ∷ bs) = pairs (pair rows a b) a bs
 
+-- the commands b of a list, noted in row a
+abbrev pub note : List (List ℕ) → ℕ → ℕ → List (List ℕ)
+note rows a b = put rows (a - 1) (b - 1)
+
+unfoldable pub notes : List (List ℕ) → ℕ → List ℕ → List (List ℕ)
+notes rows a [] = rows
+notes rows a (b ∷ bs) = notes (note rows a b) a bs
+
+-- the commands above k whose flags are set, the first flag that of k + 1
+abbrev pub member : ℕ → ℕ → List ℕ → List ℕ
+member k zero ms = ms
+member k (suc f) ms = (k + 1) ∷ ms
+
+unfoldable pub members : ℕ → List ℕ → List ℕ
+members k [] = []
+members k (f ∷ fs) = member k f (members (k + 1) fs)
+
+abbrev pub markedIf : ℕ → List (List ℕ) → ℕ → ℕ → List (List ℕ)
+markedIf zero rows a b = rows
+markedIf (suc f) rows a b = pair rows a b
+
 -- a mark in row i at place i, for i below k
 unfoldable pub diagonal : List (List ℕ) → ℕ → List (List ℕ)
 diagonal rows zero = rows

@@ -13,7 +13,7 @@ use borrow.Author.Tests.{eq-eqb, ne-eqb, lt-ltb, le-ltb}
 use Rattle.catalogue.specs.Conflict.{bit}
 use Rattle.catalogue.specs.ConflictLaws.{eqb-sym}
 use Rattle.catalogue.specs.Catalogue.{stands}
-use Rattle.chains.specs.Marks.{cell, Shape, Blank, put, pair, pairs, diagonal}
+use Rattle.chains.specs.Marks.{cell, Shape, Blank, put, pair, pairs, note, notes, markedIf, diagonal}
 
 abbrev zeros : List ℕ
 zeros = replicate 24 0
@@ -136,6 +136,37 @@ module _ (a : ℕ) (ha : (1 ≤ a) × (a ≤ 24)) where
       ∙ ap bit
       (gather-and (eqb (k + 1) a) (eqb (l + 1) a) (eqb (k + 1) b) (stands (k + 1) bs) (eqb (l + 1) b)
       (stands (l + 1) bs) q)
+
+spread : (ka lb sl q : Bool) → ((ka && sl) || ((ka && lb) || q)) ≡ ((ka && (lb || sl)) || q)
+spread true true true q = refl
+spread true true false q = refl
+spread true false sl q = refl
+spread false lb sl q = refl
+
+-- what cell (k, l) holds after a list of commands is noted in row a
+module _ (a : ℕ) (ha : (1 ≤ a) × (a ≤ 24)) where
+  noted : (b : ℕ) (rows : List (List ℕ)) → (1 ≤ b) × (b ≤ 24) → Shape rows → Shape (note rows a b)
+  noted b rows f s = put-shape rows s (a - 1) (b - 1) (omega arith) (omega arith)
+
+  pub notes-shape : (bs : List ℕ) (rows : List (List ℕ)) → Fit bs → Shape rows → Shape (notes rows a bs)
+  unfolding notes
+  notes-shape [] rows f s = s
+  notes-shape (b ∷ bs) rows f s = notes-shape bs (note rows a b) (f .1) (noted b rows (f .0) s)
+
+  pub notes-cell : (bs : List ℕ) (rows : List (List ℕ)) → Fit bs → Shape rows
+      → (k l : ℕ) (q : Bool) → cell rows k l ≡ bit q
+      → cell (notes rows a bs) k l ≡ bit ((eqb (k + 1) a && stands (l + 1) bs) || q)
+  unfolding notes stands
+  notes-cell [] rows f s k l q e = e ∙ simp and-false
+  notes-cell (b ∷ bs) rows f s k l q e =
+      notes-cell bs (note rows a b) (f .1) (noted b rows (f .0) s) k l ((eqb (k + 1) a && eqb (l + 1) b) || q)
+      (put-cell rows s (a - 1) (b - 1) (omega arith) (omega arith) k l
+      ∙ rw (e, over-bit, eqb-pred k a (ha .0), eqb-pred l b (f .0 .0)))
+      ∙ ap bit (spread (eqb (k + 1) a) (eqb (l + 1) b) (stands (l + 1) bs) q)
+
+pub marked-if : (f : ℕ) (rows : List (List ℕ)) (a b : ℕ) → 0 < f → pair rows a b ≡ markedIf f rows a b
+marked-if zero rows a b h = absurd (omega arith)
+marked-if (suc f) rows a b h = refl
 
 pub ltb-more : (x a : ℕ) → ltb x (suc a) ≡ (eqb x a || ltb x a)
 ltb-more x a = go (ℕ-discrete x a) (decLt x a)

@@ -1,11 +1,17 @@
-// Reading a catalogue: its chains, walked once each, give lines 5 and 6 of document 01's table and the conflicts.
+// Reading a catalogue: its chains give lines 5 and 6 of document 01's table and the conflicts. A chain that several
+// commands have is walked once.
 
 ghost use mathlib.Core.Path.{_≡_};
+ghost use mathlib.Core.Bool.{true};
 ghost use mathlib.Core.Option.{none};
-ghost use Prim.Native.Nat.{_≤_};
+ghost use Prim.Native.Nat.{_+_, _-_, _≤_};
+ghost use lib.ListN.{getD};
+ghost use mathlib.Core.List.{[]};
 ghost use Rattle.catalogue.specs.Catalogue.{commands, records, head, ends, chain, endlessLine, ownLine};
 ghost use Rattle.catalogue.specs.Sound.{Decides, Framed, Sound};
-ghost use Rattle.chains.specs.Marks.{Shape, Blank, Met, pair, pairs, diagonal as diagonalOf};
+ghost use Rattle.chains.specs.Marks.{Shape, Blank, Met, pair, pairs, note, notes, members, markedIf};
+ghost use Rattle.chains.specs.Marks.{diagonal as diagonalOf};
+ghost use Rattle.chains.specs.Known.{NoneKnown, Chained, Known};
 ghost use Rattle.chains.specs.Reading.{Reading};
 use catalogue::refused;
 use refusal::Checked;
@@ -20,11 +26,23 @@ fn mark(a: usize, b: usize, rows: &mut [[u16; 24]; 24])
     rows[b - 1][a - 1] = 1;
 }
 
-// Follows the chain of command a, of at most R records, and marks each command that it meets. Tells whether it ends.
-fn walk(c: &[u8], a: usize, rows: &mut [[u16; 24]; 24]) -> bool
-    requires { ⌜ Sound (now c) ⌝ ∗ ⌜ Shape (now rows) ⌝ ∗ ⌜ 1 ≤ a ⌝ ∗ ⌜ a ≤ commands (now c) ⌝ }
+// Marks that two commands conflict, and notes in row a of own that b stands in the chain of a.
+fn meet(a: usize, b: usize, rows: &mut [[u16; 24]; 24], own: &mut [[u16; 24]; 24])
+    requires { ⌜ Shape (now rows) ⌝ ∗ ⌜ Shape (now own) ⌝ ∗ ⌜ (1 ≤ a) × (a ≤ 24) ⌝ ∗ ⌜ (1 ≤ b) × (b ≤ 24) ⌝ }
+    ensures { λ _. ⌜ now (rows .exit) ≡ pair (now (rows .entry)) a b ⌝ }
+    ensures { λ _. ⌜ now (own .exit) ≡ note (now (own .entry)) a b ⌝ }
+{
+    mark(a, b, rows);
+    own[a - 1][b - 1] = 1;
+}
+
+// Follows the chain of command a, of at most R records, and marks each command that it meets; which they are is also
+// noted in row a of own. Tells whether it ends.
+fn walk(c: &[u8], a: usize, rows: &mut [[u16; 24]; 24], own: &mut [[u16; 24]; 24]) -> bool
+    requires { ⌜ Sound (now c) ⌝ ∗ ⌜ Shape (now rows) ⌝ ∗ ⌜ Shape (now own) ⌝ ∗ ⌜ 1 ≤ a ⌝ ∗ ⌜ a ≤ commands (now c) ⌝ }
     ensures { λ r. ⌜ r ≡ ends (now (c .entry)) (records (now (c .entry))) (head (now (c .entry)) a) ⌝ }
     ensures { λ _. ⌜ now (rows .exit) ≡ pairs (now (rows .entry)) a (chain (now (c .entry)) a) ⌝ }
+    ensures { λ _. ⌜ now (own .exit) ≡ notes (now (own .entry)) a (chain (now (c .entry)) a) ⌝ }
 {
     let n = c[0] as usize;
     let mut left = c[1];
@@ -33,23 +51,74 @@ fn walk(c: &[u8], a: usize, rows: &mut [[u16; 24]; 24]) -> bool
         if at == 0 {
             return true;
         }
-        mark(a, c[n + 2 * at] as usize, rows);
+        meet(a, c[n + 2 * at] as usize, rows, own);
         at = c[n + 2 * at + 1] as usize;
         left -= 1;
     }
     at == 0
 }
 
-// Line 5. Each chain is walked once.
-fn each_chain(c: &[u8], rows: &mut [[u16; 24]; 24]) -> Checked
-    requires { ⌜ Sound (now c) ⌝ ∗ ⌜ Blank (now rows) ⌝ }
+// Marks commands a and b where the flag is set.
+fn mark_if(flag: u16, a: usize, b: usize, rows: &mut [[u16; 24]; 24])
+    requires { ⌜ Shape (now rows) ⌝ ∗ ⌜ 1 ≤ a ⌝ ∗ ⌜ a ≤ 24 ⌝ ∗ ⌜ 1 ≤ b ⌝ ∗ ⌜ b ≤ 24 ⌝ }
+    ensures { λ _. ⌜ now (rows .exit) ≡ markedIf flag (now (rows .entry)) a b ⌝ }
+{
+    if flag != 0 {
+        mark(a, b, rows);
+    }
+}
+
+// Marks command a as the chain in row b of own tells.
+fn mark_like(own: &[[u16; 24]; 24], b: usize, a: usize, rows: &mut [[u16; 24]; 24])
+    requires { ⌜ Shape (now own) ⌝ ∗ ⌜ Shape (now rows) ⌝ ∗ ⌜ (1 ≤ a) × (a ≤ 24) ⌝ ∗ ⌜ (1 ≤ b) × (b ≤ 24) ⌝ }
+    ensures { λ _. ⌜ now (rows .exit) ≡ pairs (now (rows .entry)) a (members 0 (getD (now (own .entry)) (b - 1) [])) ⌝ }
+{
+    let mut j = 0;
+    while j < 24 {
+        mark_if(own[b - 1][j], a, j + 1, rows);
+        j += 1;
+    }
+}
+
+// The chain of command a: walked, or marked as that of the first command with the same head. Tells whether it ends.
+fn chain_of(
+    c: &[u8],
+    a: usize,
+    rows: &mut [[u16; 24]; 24],
+    own: &mut [[u16; 24]; 24],
+    firsts: &mut [u8; 256],
+) -> bool
+    requires { ⌜ Sound (now c) ⌝ ∗ ⌜ Chained (now c) a (now rows) ⌝ ∗ ⌜ Known (now c) a (now own) (now firsts) ⌝
+        ∗ ⌜ 1 ≤ a ⌝ ∗ ⌜ a ≤ commands (now c) ⌝ }
+    ensures { λ r. ⌜ r ≡ ends (now (c .entry)) (records (now (c .entry))) (head (now (c .entry)) a) ⌝ }
+    ensures { λ r. ⌜ (r ≡ true → Chained (now (c .entry)) (a + 1) (now (rows .exit))) ⌝ }
+    ensures { λ r. ⌜ (r ≡ true → Known (now (c .entry)) (a + 1) (now (own .exit)) (now (firsts .exit))) ⌝ }
+{
+    let h = c[1 + a] as usize;
+    let b = firsts[h] as usize;
+    if b != 0 {
+        mark_like(own, b, a, rows);
+        return true;
+    }
+    firsts[h] = a as u8;
+    walk(c, a, rows, own)
+}
+
+// Line 5.
+fn each_chain(
+    c: &[u8],
+    rows: &mut [[u16; 24]; 24],
+    own: &mut [[u16; 24]; 24],
+    firsts: &mut [u8; 256],
+) -> Checked
+    requires { ⌜ Sound (now c) ⌝ ∗ ⌜ Blank (now rows) ⌝ ∗ ⌜ Blank (now own) ⌝ ∗ ⌜ NoneKnown (now firsts) ⌝ }
     ensures { λ r. ⌜ Decides (now (c .entry)) (endlessLine (now (c .entry))) r ⌝ }
     ensures { λ _. ⌜ (endlessLine (now (c .entry)) ≡ none → Met (now (c .entry)) (now (rows .exit))) ⌝ }
 {
     let n = c[0] as usize;
     let mut a = 1;
     while a <= n {
-        if !walk(c, a, rows) {
+        if !chain_of(c, a, rows, own, firsts) {
             return refused(Reason::EndlessChain, 1 + a);
         }
         a += 1;
@@ -58,7 +127,7 @@ fn each_chain(c: &[u8], rows: &mut [[u16; 24]; 24]) -> Checked
 }
 
 // Line 6: a command that stands in its own chain is marked against itself.
-fn own(c: &[u8], rows: &[[u16; 24]; 24]) -> Checked
+fn own_chain(c: &[u8], rows: &[[u16; 24]; 24]) -> Checked
     requires { ⌜ Framed (now c) ⌝ ∗ ⌜ Met (now c) (now rows) ⌝ }
     ensures { λ r. ⌜ Decides (now (c .entry)) (ownLine (now (c .entry))) r ⌝ }
 {
@@ -92,6 +161,13 @@ pub fn blank() -> [[u16; 24]; 24]
     [[0; 24]; 24]
 }
 
+// No command known for any head.
+fn none_known() -> [u8; 256]
+    ensures { λ r. ⌜ NoneKnown r ⌝ }
+{
+    [0; 256]
+}
+
 // Reads a catalogue of any bytes. Passed carries N, and then the rows hold the conflicts.
 pub fn read(catalogue: &[u8], conflicts: &mut [[u16; 24]; 24]) -> Checked
     requires { ⌜ Blank (now conflicts) ⌝ }
@@ -101,11 +177,13 @@ pub fn read(catalogue: &[u8], conflicts: &mut [[u16; 24]; 24]) -> Checked
     let Checked::Passed(_) = sound else {
         return sound;
     };
-    let chained = each_chain(catalogue, conflicts);
+    let mut own = blank();
+    let mut firsts = none_known();
+    let chained = each_chain(catalogue, conflicts, &mut own, &mut firsts);
     let Checked::Passed(_) = chained else {
         return chained;
     };
-    let owned = own(catalogue, conflicts);
+    let owned = own_chain(catalogue, conflicts);
     let Checked::Passed(n) = owned else {
         return owned;
     };

@@ -1,21 +1,29 @@
--- `each_chain` decides line 5. The loop's invariant: every chain before command a ends, and the rows hold its marks.
+-- `each_chain` decides line 5. The loop's invariant: every chain before command a ends, the rows hold its marks, and the
+-- first command with each head is known.
 use Prim.Native.Nat.{_+_, _-_}
 use native.Mathlib.Omega.{arith}
-use mathlib.Core.Path.{ap, sym, _∙_}
-use mathlib.Core.Bool.{not}
+use mathlib.Core.Path.{_≡_, refl, ap, sym, _∙_}
+use mathlib.Core.Bool.{Bool, true, false, not, true≢false}
 use Rattle.refusal.specs.Search.{lineAt}
 use Rattle.refusal.specs.SearchLaws.{Searching, search-start, search-again, search-hit, search-end}
 use Rattle.catalogue.specs.Catalogue.{commands, headPlace}
 use Rattle.catalogue.specs.SoundLaws.{decides, passes, some-none}
-use Rattle.chains.specs.ChainLaws.{endless, Chained, chained-start, chained-again, chained-end}
+use Rattle.chains.specs.Known.{Chained, Known}
+use Rattle.chains.specs.ChainLaws.{endless, chained-start, chained-end}
+use Rattle.chains.specs.KnownLaws.{known-start}
 use Rattle.chains.proofs.each_chain.Statement.{statement}
 use Rattle.chains.proofs.each_chain.Tie as tie
 
+not-false : (b : Bool) → not b ≡ false → b ≡ true
+not-false true e = refl
+not-false false e = absurd (true≢false e)
+
 abbrev Inv-loop : tie.InvT-loop
-Inv-loop c rows₀ n a₀ rows a = Searching (endless c) (commands c) 1 a × Chained c a rows
+Inv-loop c rows₀ own₀ firsts₀ n a₀ rows own firsts a =
+    Searching (endless c) (commands c) 1 a × Chained c a rows × Known c a own firsts
 
 abbrev μ-loop : tie.MeasureT-loop
-μ-loop c rows₀ n a₀ rows a = commands c + 1 - a
+μ-loop c rows₀ own₀ firsts₀ n a₀ rows own firsts a = commands c + 1 - a
 
 shared-slice-read-n : tie.Need-shared-slice-read-n Inv-loop μ-loop
 shared-slice-read-n c = omega arith
@@ -26,13 +34,17 @@ cast-n c = omega arith
 loop-holds : tie.Need-loop-holds Inv-loop μ-loop
 loop-holds c =
     let x = c .before .before in
-    let cat = x .args .c .now in
-    (search-start (endless cat) (commands cat) 1, chained-start cat (x .pre .1))
+    let cat = x .args .c .now in (
+      search-start (endless cat) (commands cat) 1,
+      chained-start cat (x .pre .1 .0),
+      known-start cat (x .pre .1 .1 .0) (x .pre .1 .1 .1),
+    )
 
-walk-requires : tie.Need-walk-requires Inv-loop μ-loop
-walk-requires c κs =
-    let x = c .before .before .before .before .before in
-    (x .pre .0, (c .before .before .loop .inv .1 .shape, (omega arith, omega arith)))
+chain-of-requires : tie.Need-chain-of-requires Inv-loop μ-loop
+chain-of-requires c κs =
+    let x = c .before .before .before .before .before .before .before in
+    let g = c .before .before .before .before .loop in
+    (x .pre .0, (g .inv .1, (g .inv .2, (omega arith, omega arith))))
 
 add-refused : tie.Need-add-refused Inv-loop μ-loop
 add-refused c = omega arith
@@ -42,9 +54,11 @@ refused-requires c κs = omega arith
 
 returns : tie.Need-returns Inv-loop μ-loop
 returns c =
-    let cat = c .before .before .before .before .before .before .before .before .args .c .now in
-    let stuck = ap not (sym (c .before .before .walk .ensures .0)) ∙ c .before .if1 .taken in
-    let hit = search-hit (endless cat) (c .before .before .before .before .before .loop .inv .0) (omega arith) stuck in
+    let cat = c .before .before .before .before .before .before .before .before .before .before .args .c .now in
+    let stuck = ap not (sym (c .before .before .chain-of .ensures .0)) ∙ c .before .if1 .taken in
+    let hit =
+    search-hit (endless cat) (c .before .before .before .before .before .before .before .loop .inv .0) (omega arith) stuck
+    in
     let line = ap (lineAt 5 0 headPlace) hit in
     (decides cat (c .refused .result) line (c .refused .ensures), λ e. absurd (some-none (sym line ∙ e)))
 
@@ -56,13 +70,12 @@ loop-less c = omega arith
 
 loop-again : tie.Need-loop-again Inv-loop μ-loop
 loop-again c =
-    let x = c .before .before .before .before .before .before .before in
+    let x = c .before .before .before .before .before .before .before .before .before in
     let cat = x .args .c .now in
-    let g = c .before .before .before .before .loop in
-    let ends = ap not (sym (c .before .walk .ensures .0)) ∙ c .if1 .left in (
-      search-again (endless cat) (g .inv .0) (omega arith) ends,
-      chained-again cat (x .pre .0) (g .a) (omega arith) (omega arith) (g .inv .1) (c .before .walk .ensures .1),
-    )
+    let g = c .before .before .before .before .before .before .loop in
+    let d = c .before .chain-of .ensures in
+    let t = not-false (c .before .chain-of .result) (c .if1 .left) in
+    (search-again (endless cat) (g .inv .0) (omega arith) (ap not (sym (d .0)) ∙ c .if1 .left), d .1 .0 t, d .1 .1 t)
 
 returns-2 : tie.Need-returns-2 Inv-loop μ-loop
 returns-2 c =
@@ -81,7 +94,7 @@ each-chain-spec =
     shared-slice-read-n
     cast-n
     loop-holds
-    walk-requires
+    chain-of-requires
     add-refused
     refused-requires
     returns

@@ -17,9 +17,9 @@ sound-line c =
     passed-none cat (soundLine cat) (r .result) (r .ensures) (c .enum-told .given .1)
 
 endless-line : (c : tie.After-enum-told3)
-    → endlessLine (c .before .before .before .before .before .before .before .before .args .catalogue .now) ≡ none
+    → endlessLine (c .before .before .before .before .before .before .before .before .before .before .before .before .args .catalogue .now) ≡ none
 endless-line c =
-    let cat = c .before .before .before .before .before .before .before .before .args .catalogue .now in
+    let cat = c .before .before .before .before .before .before .before .before .before .before .before .before .args .catalogue .now in
     let r = c .before .before .each-chain in
     passed-none cat (endlessLine cat) (r .result) (r .ensures .0) (c .enum-told3 .given .1)
 
@@ -40,11 +40,21 @@ returns c =
     let d = then-refused cat (soundLine cat) last (r .result) (r .ensures) (c .enum-told2 .given .1) in
     answers-refused cat (r .result) d (c .enum-told2 .given .1)
 
+blank-requires : tie.Need-blank-requires
+blank-requires c κs = search needs
+
+none-known-requires : tie.Need-none-known-requires
+none-known-requires c κs = search needs
+
 each-chain-requires : tie.Need-each-chain-requires
 each-chain-requires c κs =
-    let x = c .before in (
+    let b = c .before .before .before .before in
+    let x = b .before in (
       sound-none (x .before .before .before .before .args .catalogue .now) (sound-line x),
-      x .before .before .before .before .pre,
+      (
+        x .before .before .before .before .pre,
+        (b .blank .ensures, c .before .before .before .none-known .ensures),
+      ),
     )
 
 enum-told-3 : tie.Need-enum-told-3
@@ -55,7 +65,7 @@ enum-told-4 c = search needs
 
 returns-2 : tie.Need-returns-2
 returns-2 c =
-    let x = c .before .before .before .before in
+    let x = c .before .before .before .before .before .before .before .before in
     let cat = x .before .before .before .before .args .catalogue .now in
     let r = c .before .before .each-chain in
     let d = then-refused cat (endlessLine cat) (ownLine cat) (r .result) (r .ensures .0) (c .enum-told4 .given .1) in
@@ -63,10 +73,10 @@ returns-2 c =
     answers-refused cat (r .result) (then-passed cat (soundLine cat) last (r .result) (sound-line x) d)
     (c .enum-told4 .given .1)
 
-own-requires : tie.Need-own-requires
-own-requires c κs =
+own-chain-requires : tie.Need-own-chain-requires
+own-chain-requires c κs =
     let y = c .before in
-    let x = y .before .before .before .before in (
+    let x = y .before .before .before .before .before .before .before .before in (
       sound-none (x .before .before .before .before .args .catalogue .now) (sound-line x) .framed,
       y .before .before .each-chain .ensures .1 (endless-line y),
     )
@@ -80,9 +90,9 @@ enum-told-5 c = search needs
 returns-3 : tie.Need-returns-3
 returns-3 c =
     let y = c .before .before .before .before in
-    let x = y .before .before .before .before in
+    let x = y .before .before .before .before .before .before .before .before in
     let cat = x .before .before .before .before .args .catalogue .now in
-    let r = c .before .before .own in
+    let r = c .before .before .own-chain in
     let d = then-passed cat (endlessLine cat) (ownLine cat) (r .result) (endless-line y) (r .ensures) in
     let last = orIf (endlessLine cat) (ownLine cat) in
     answers-refused cat (r .result) (then-passed cat (soundLine cat) last (r .result) (sound-line x) d)
@@ -96,9 +106,9 @@ diagonal-requires c κs =
 returns-4 : tie.Need-returns-4
 returns-4 c =
     let y = c .before .before .before .before .before .before .before in
-    let x = y .before .before .before .before in
+    let x = y .before .before .before .before .before .before .before .before in
     let cat = x .before .before .before .before .args .catalogue .now in
-    let r = c .before .before .before .before .before .own in
+    let r = c .before .before .before .before .before .own-chain in
     let d = then-passed cat (endlessLine cat) (ownLine cat) (r .result) (endless-line y) (r .ensures) in
     let last = orIf (endlessLine cat) (ownLine cat) in
     let met = y .before .before .each-chain .ensures .1 (endless-line y) in
@@ -114,11 +124,13 @@ read-spec =
     enum-told
     enum-told-2
     returns
+    blank-requires
+    none-known-requires
     each-chain-requires
     enum-told-3
     enum-told-4
     returns-2
-    own-requires
+    own-chain-requires
     enum-known-owned
     enum-told-5
     returns-3

@@ -7,8 +7,8 @@ use Rattle.refusal.specs.SearchLaws.{Searching, search-start, search-again, sea
 use Rattle.catalogue.specs.Catalogue.{commands, headPlace, chain, stands}
 use Rattle.catalogue.specs.SoundLaws.{decides, passes}
 use Rattle.chains.specs.ChainLaws.{met-own, met-not}
-use Rattle.chains.proofs.own.Statement.{statement}
-use Rattle.chains.proofs.own.Tie as tie
+use Rattle.chains.proofs.own_chain.Statement.{statement}
+use Rattle.chains.proofs.own_chain.Tie as tie
 
 abbrev Inv-loop : tie.InvT-loop
 Inv-loop c rows n a₀ a = Searching (λ a. stands a (chain c a)) (commands c) 1 a
@@ -80,8 +80,8 @@ returns-2 c =
     let none = search-end (λ a. stands a (chain cat a)) (c .before .loop .inv) (omega arith) in
     passes cat (ap (lineAt 6 0 headPlace) none)
 
-pub own-spec : {M : Type 1} → statement M
-own-spec =
+pub own-chain-spec : {M : Type 1} → statement M
+own-chain-spec =
     tie.close
     (tie.spec
     Inv-loop
