@@ -1,11 +1,9 @@
 -- A refusal passed on untouched; and what a call that writes a form of its plan answers.
 use Prim.Native.Nat.{ℕ}
 use mathlib.Core.Path.{_≡_}
-use mathlib.Core.Bool.{Bool, true, false}
 use mathlib.Core.List.{List}
 use lib.ListN.{length}
-use Rattle.plan.specs.Letters.{normalForm}
-use Rattle.calls.specs.Calls.{coreForm, normalFormLines, areaAfter}
+use Rattle.calls.specs.Calls.{normalFormLines, areaAfter}
 use Rattle.refusal.specs.Line.{Answer, refused, lineOf, firstLine, orElse}
 use Rattle.refusal.specs.declared.Refusal.{Refusal}
 use Rattle.refusal.specs.declared.Checked.{Checked}
@@ -15,12 +13,7 @@ use Rattle.refusal.specs.declared.Checked.the-variants.{Refused}
 abbrev pub SameRefusal : {A : Type 0} → Checked → Answer A → Type 0
 SameRefusal r a = (f : Refusal) → r ≡ Refused f → a ≡ refused (lineOf f)
 
--- of a plan: the normal form, or that of its core
-abbrev pub form : Bool → List ℕ → List ℕ → List ℕ
-form true = coreForm
-form false = normalForm
-
--- the answer t and the area afterwards where that form is to be written
+-- the answer t and the area afterwards where the form f of a plan is to be written
 abbrev pub WrittenForm : (List ℕ → List ℕ → List ℕ) → List ℕ → List ℕ → List ℕ → Answer ℕ → List ℕ → Type 0
 WrittenForm f c v area t after =
     (t ≡ orElse (firstLine (normalFormLines c v area)) (length (f c v)))

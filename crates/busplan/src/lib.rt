@@ -9,7 +9,8 @@ ghost use Rattle.calls.specs.Calls.{normalFormAnswer, normalFormArea, coreAnswe
 ghost use Rattle.calls.specs.Answers.{toldLoops, toldLeadIn};
 ghost use Rattle.calls.specs.Loops.{Looped, checkAnswer, checkArea0, checkArea1};
 ghost use Rattle.refusal.specs.Line.{given};
-ghost use Rattle.busplan.specs.Outcome.{SameRefusal, form, WrittenForm};
+ghost use Rattle.coring.specs.Coring.{form};
+ghost use Rattle.busplan.specs.Outcome.{SameRefusal, WrittenForm};
 ghost use Rattle.busplan.specs.LoopOutcome.{toldOutcome};
 
 mod console;
@@ -69,10 +70,7 @@ fn write_form(catalogue: &[u8], plan: &[u8], area: &mut [u8], cored: bool) -> Wr
     if area.len() < plan.len() {
         return Written::Refused(small_area(0));
     }
-    if cored {
-        return Written::Length(coring::core(plan, &conflicts, area));
-    }
-    Written::Length(engine::normal_form(plan, &conflicts, area))
+    Written::Length(coring::form(plan, &conflicts, area, cored))
 }
 
 // The normal form of plan, written at the start of area.

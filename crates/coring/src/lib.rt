@@ -1,35 +1,66 @@
-// The core of a plan that has passed its checks: the plan is piled up, pairs are taken off, and what is left is read off.
+// The normal form of a plan that has passed its checks, or that of its core: the plan is piled up, pairs are taken off
+// where the core is wanted, and what is left is read off. A piling is a local array of rows beside an array of heights.
 
 ghost use Prim.Native.Nat.{ℕ, _≤_};
 ghost use mathlib.Core.Path.{_≡_};
 ghost use mathlib.Core.List.{List};
 ghost use lib.ListN.{length};
 ghost use Rattle.engine.specs.Passed.{Passed, Starts};
-ghost use Rattle.calls.specs.Calls.{coreForm};
-ghost use Rattle.coring.specs.Coring.{Room, CoreOf};
+ghost use Rattle.peeling.specs.Peeling.{Peelable};
+ghost use Rattle.coring.specs.Coring.{form, Room, Remains, FormOf};
 
-// The length of the core, and the number of letters taken off in front.
-pub struct Cored {
-    pub core: usize,
+// The length of the form, and the number of letters taken off in front.
+pub struct Formed {
+    pub form: usize,
     pub lead: usize,
 }
 
-// Writes the core of plan, in normal form, at the start of core, and at the start of lead the letters that were taken
-// off in front.
-pub fn core_of(plan: &[u8], conflicts: &[[u16; 24]; 24], core: &mut [u8], lead: &mut [u8]) -> Cored
-    requires { ⌜ ((c : List ℕ) × Passed c (now conflicts) (now plan) × Room (now plan) (now core) (now lead)) ⌝ }
+// Takes pairs off, as `peel` does, where the core is wanted; else nothing changes.
+fn peel_if(
+    rows: &[[u8; 1024]; 24],
+    heights: &mut [u16; 24],
+    at: &mut [u16; 24],
+    conflicts: &[[u16; 24]; 24],
+    lead: &mut [u8],
+    cored: bool,
+) -> usize
+    requires { ⌜ ((c : List ℕ) × (x : List ℕ)
+        × Peelable c (now conflicts) (now rows) (now heights) (now at) x (now lead)) ⌝ }
+    ensures { λ r.
+        ⌜ ((c x : List ℕ)
+        → Peelable c (now (conflicts .entry)) (now (rows .entry)) (now (heights .entry)) (now (at .entry)) x
+        (now (lead .entry))
+        → (z : List ℕ) × Remains c (now (rows .entry)) x (now (lead .entry)) (now (heights .exit))
+        (now (at .exit)) cored (now (lead .exit)) r z) ⌝ }
+{
+    if cored {
+        return peeling::peel(rows, heights, at, conflicts, lead);
+    }
+    0
+}
+
+// Writes the normal form of plan, or that of its core, at the start of area; with the core, at the start of lead, the
+// letters that were taken off in front.
+pub fn form_of(
+    plan: &[u8],
+    conflicts: &[[u16; 24]; 24],
+    area: &mut [u8],
+    lead: &mut [u8],
+    cored: bool,
+) -> Formed
+    requires { ⌜ ((c : List ℕ) × Passed c (now conflicts) (now plan) × Room (now plan) (now area) (now lead)) ⌝ }
     ensures { λ r. ⌜ ((c : List ℕ) → Passed c (now (conflicts .entry)) (now (plan .entry))
-        → CoreOf c (now (plan .entry)) (now (core .entry)) (now (lead .entry)) (now (core .exit)) (now (lead .exit))
-        (r .core) (r .lead)) ⌝ }
+        → FormOf c (now (plan .entry)) (now (area .entry)) (now (lead .entry)) cored (now (area .exit))
+        (now (lead .exit)) (r .form) (r .lead)) ⌝ }
 {
     let mut rows = beads::blank_rows();
     let mut heights = beads::blank_heights();
     piling::pile(plan, conflicts, &mut rows, &mut heights);
     let mut bottoms = beads::blank_heights();
-    let taken = peeling::peel(&rows, &mut heights, &mut bottoms, conflicts, lead);
-    let left = reading::read_off(rows, heights, bottoms, conflicts, core);
-    Cored {
-        core: left,
+    let taken = peel_if(&rows, &mut heights, &mut bottoms, conflicts, lead, cored);
+    let left = reading::read_off(rows, heights, bottoms, conflicts, area);
+    Formed {
+        form: left,
         lead: taken,
     }
 }
@@ -41,13 +72,13 @@ fn blank_lead() -> [u8; 512]
     [0; 512]
 }
 
-// The same for a caller who wants the core alone.
-pub fn core(plan: &[u8], conflicts: &[[u16; 24]; 24], area: &mut [u8]) -> usize
+// The same for a caller who wants the form alone; its length.
+pub fn form(plan: &[u8], conflicts: &[[u16; 24]; 24], area: &mut [u8], cored: bool) -> usize
     requires { ⌜ ((c : List ℕ) × Passed c (now conflicts) (now plan) × (length (now plan) ≤ length (now area))) ⌝ }
     ensures { λ r. ⌜ ((c : List ℕ) → Passed c (now (conflicts .entry)) (now (plan .entry))
-        → Starts (coreForm c (now (plan .entry))) (now (area .entry)) (now (area .exit)) r) ⌝ }
+        → Starts (form cored c (now (plan .entry))) (now (area .entry)) (now (area .exit)) r) ⌝ }
 {
     let mut lead = blank_lead();
-    let cored = core_of(plan, conflicts, area, &mut lead);
-    cored.core
+    let formed = form_of(plan, conflicts, area, &mut lead, cored);
+    formed.form
 }

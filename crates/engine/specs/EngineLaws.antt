@@ -1,20 +1,18 @@
--- The piling of a plan read off is its normal form, and equal pilings are equal normal forms.
+-- A plan that has passed can be piled up, and equal pilings are equal normal forms.
 use Prim.Native.Nat.{ℕ, _≤_}
-use mathlib.Core.Path.{_≡_, refl, sym, _∙_, ap, ap₂, subst, subst₂}
-use mathlib.Core.List.{List, [], _∷_, _++_, reverse, reverse-reverse}
+use mathlib.Core.Path.{_≡_, sym, subst, subst₂}
+use mathlib.Core.List.{List, [], reverse, reverse-reverse}
 use mathlib.Core.Bool.{true}
 use mathlib.Core.Logic.{_↔_}
 use native.Mathlib.Omega.{arith}
-use lib.ListN.{length, drop, length-reverse}
+use lib.ListN.{length, length-reverse}
 use Rattle.words.specs.All.{All, all-map, all-reverse}
 use Rattle.words.specs.Trace as Trace
 use Rattle.words.specs.Group as Group
 use Rattle.words.specs.Group.{then, back}
 use Rattle.words.specs.GroupLaws.{~→≈, ≈-reverse}
-use Rattle.words.specs.Reduce.{reduce}
-use Rattle.words.specs.ReduceLaws.{reduce-≈, reduce-~, reduce-back, reduce-reduced, reduced-reverse, reduce-length}
-use Rattle.words.specs.Normal.{lex}
-use Rattle.words.specs.NormalLaws.{lex-sorts, sorts-nf, nf-complete, nf-sound}
+use Rattle.words.specs.ReduceLaws.{reduce-≈, reduce-~, reduce-length}
+use Rattle.words.specs.NormalLaws.{nf-complete, nf-sound}
 use Rattle.words.specs.LetterLaws.{all-reduce}
 use Rattle.catalogue.specs.Catalogue.{commands}
 use Rattle.plan.specs.Plan.{isCommand}
@@ -24,11 +22,9 @@ use Rattle.plan.specs.CommandLaws.{command-range}
 use Rattle.plan.specs.Lettered.{Lettered}
 use Rattle.piling.specs.Piling.{Piled}
 use Rattle.piling.specs.Pile.{Given, reduced}
-use Rattle.reading.specs.Reading.{Readable, ReadOff}
-use Rattle.reading.specs.PiledLaws.{piled-readable}
 use Rattle.piling.specs.BlankLaws.{piled-blank}
 use Rattle.beads.specs.Blank.{blankRows, blankHeights}
-use Rattle.engine.specs.Passed.{Passed, Starts}
+use Rattle.engine.specs.Passed.{Passed}
 
 module _ {c : List ℕ} {conflicts : List (List ℕ)} {v : List ℕ} (p : Passed c conflicts v) where
   -- a plan that has passed can be piled into blank rows
@@ -66,27 +62,6 @@ module _ (c v : List ℕ) where
   reduced-word =
       subst (λ x. reverse (reduced c v) ≈ x) (reverse-reverse (letters v))
       (≈-reverse (alphabet c) (reduce-≈ (alphabet c) (reverse (letters v))))
-
-  -- what is read off
-  pub read-normal : lex (alphabet c) (length (reverse (reduced c v))) (reverse (reduced c v)) ≡ normalForm c v
-  unfolding normalForm
-  read-normal =
-      sorts-nf (alphabet c) (lex-sorts (alphabet c) (length (reverse (reduced c v))) (reverse (reduced c v)) refl)
-      (reduced-reverse (alphabet c) (reduced c v) (reduce-reduced (alphabet c) (reverse (letters v)))) reduced-word
-
-module _ {c : List ℕ} {conflicts : List (List ℕ)} {v : List ℕ} (p : Passed c conflicts v) {rows : List (List ℕ)}
-    {heights at : List ℕ} (area : List ℕ) (q : Piled c rows heights (reduced c v)) (e : at ≡ blankHeights)
-    (l : length v ≤ length area) where
-  pub passed-readable : Readable c conflicts rows heights at (reverse (reduced c v)) area
-  passed-readable =
-      subst (λ a. Readable c conflicts rows heights a (reverse (reduced c v)) area) (sym e)
-      (piled-readable q (passed-lettered p) area (p .table) (omega (arith, reduced-length c v)))
-
-pub read-starts : (c v : List ℕ) {area after : List ℕ} {r : ℕ} → ReadOff c (reverse (reduced c v)) area after r
-    → Starts (normalForm c v) area after r
-read-starts c v {area} o =
-    let n = o .count ∙ ap length (read-normal c v) in
-    record { count = n; area = o .bytes ∙ ap₂ (λ x k. x ++ drop k area) (read-normal c v) n }
 
 -- what is compared
 pub same-normal : (c v w : List ℕ)

@@ -1,27 +1,13 @@
-// The normal form and the comparison of plans that have passed their checks, by pilings. A piling is a local array of rows
-// beside an array of heights.
+// The comparison of plans that have passed their checks, by their pilings: a local array of rows beside an array of
+// heights for each.
 
-ghost use Prim.Native.Nat.{ℕ, _≤_};
+ghost use Prim.Native.Nat.{ℕ};
 ghost use mathlib.Core.Path.{_≡_};
 ghost use mathlib.Core.Bool.{true};
-ghost use mathlib.Core.List.{List, _++_};
+ghost use mathlib.Core.List.{List};
 ghost use mathlib.Core.Logic.{_↔_};
-ghost use lib.ListN.{length, drop};
 ghost use Rattle.plan.specs.Letters.{normalForm};
-ghost use Rattle.engine.specs.Passed.{Passed, Starts};
-
-// The normal form of a plan, written at the start of area; its length.
-pub fn normal_form(plan: &[u8], conflicts: &[[u16; 24]; 24], area: &mut [u8]) -> usize
-    requires { ⌜ ((c : List ℕ) × Passed c (now conflicts) (now plan) × (length (now plan) ≤ length (now area))) ⌝ }
-    ensures { λ r. ⌜ ((c : List ℕ) → Passed c (now (conflicts .entry)) (now (plan .entry))
-        → Starts (normalForm c (now (plan .entry))) (now (area .entry)) (now (area .exit)) r) ⌝ }
-{
-    let mut rows = beads::blank_rows();
-    let mut heights = beads::blank_heights();
-    piling::pile(plan, conflicts, &mut rows, &mut heights);
-    let bottoms = beads::blank_heights();
-    reading::read_off(rows, heights, bottoms, conflicts, area)
-}
+ghost use Rattle.engine.specs.Passed.{Passed};
 
 // Whether two plans have the same normal form. Their pilings are compared: nothing is read off.
 pub fn equal(v: &[u8], w: &[u8], conflicts: &[[u16; 24]; 24]) -> bool

@@ -1,20 +1,19 @@
--- A whole piling, with every bottom at 0, has left the word piled up: it can be read off.
-use Prim.Native.Nat.{ℕ, _+_, _<_, _≤_}
-use mathlib.Core.Path.{_≡_, refl, sym, _∙_, ap}
+-- A whole piling, with every bottom at 0, has left the word piled up.
+use Prim.Native.Nat.{ℕ, _+_, _<_}
+use mathlib.Core.Path.{_≡_, refl, _∙_, ap}
 use mathlib.Core.List.{List, [], reverse}
 use native.Mathlib.Omega.{arith}
-use lib.ListN.{length, getD, getD-replicate, length-reverse}
+use lib.ListN.{length, getD, getD-replicate}
 use lib.Seq.{slice}
 use Rattle.words.specs.All.{All, all-reverse}
 use Rattle.words.specs.StackLaws.{stack-read}
-use Rattle.catalogue.specs.Conflict.{Conflicts}
 use Rattle.plan.specs.Letters.{alphabet}
 use Rattle.plan.specs.Lettered.{Lettered}
 use Rattle.beads.specs.Blank.{blankHeights}
 use Rattle.beads.specs.BeadsLaws.{beads-fit}
 use Rattle.piling.specs.Piling.{Piled}
 use Rattle.piling.specs.PilingLaws.{piled-beads}
-use Rattle.reading.specs.Reading.{Left, Readable}
+use Rattle.reading.specs.Reading.{Left}
 
 bottom-zero : (i : ℕ) → i < 24 → getD blankHeights i 0 ≡ 0
 unfolding blankHeights
@@ -39,7 +38,3 @@ module _ {c : List ℕ} {rows : List (List ℕ)} {heights z : List ℕ} (p : Pil
         ap (λ n. slice n (getD heights i 0) (getD rows i [])) (bottom-zero i l)
         ∙ p .stack i l ∙ stack-read (alphabet c) 0 (i + 1) z;
   }
-
-  pub piled-readable : {conflicts : List (List ℕ)} (area : List ℕ) → Conflicts c conflicts → length z ≤ length area
-      → Readable c conflicts rows heights blankHeights (reverse z) area
-  piled-readable area t l = record { table = t; left = piled-left; fits = omega (arith, length-reverse z) }
