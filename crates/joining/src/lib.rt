@@ -1,6 +1,6 @@
 // The verdict on two plans that have passed their checks, and the lead-in from one to the other.
 
-use coring::core_of;
+use coring::form_of;
 use leading::Outcome;
 use leading::join_cores;
 use longform::normal_form;
@@ -35,14 +35,14 @@ fn lead(
 {
     let mut x = sheet();
     let mut g = sheet();
-    let one = core_of(v, conflicts, &mut x, &mut g);
+    let one = form_of(v, conflicts, &mut x, &mut g, true);
     let mut y = sheet();
     let mut h = sheet();
-    let two = core_of(w, conflicts, &mut y, &mut h);
+    let two = form_of(w, conflicts, &mut y, &mut h, true);
     let at = append(row, 0, &g[..one.lead]);
     let way = join_cores(
-        &x[..one.core],
-        &y[..two.core],
+        &x[..one.form],
+        &y[..two.form],
         commands,
         conflicts,
         under,

@@ -5,6 +5,7 @@ use native.Mathlib.Omega.{arith}
 use lib.ListN.{take}
 use borrow.Author.Needs.{needs}
 use Rattle.coring.specs.Coring.{CoreOf}
+use Rattle.coring.specs.CoringLaws.{core-of}
 use Rattle.leading.specs.Lead.{CoresLead, CoresLed}
 use Rattle.leading.proofs.OutcomeLaws.{stops}
 use Rattle.joining.specs.Join.{Plans}
@@ -15,43 +16,43 @@ use Rattle.joining.proofs.lead.Tie as tie
 
 -- places on the way
 
-abbrev first : tie.After-core-of2 → tie.After-core-of
+abbrev first : tie.After-form-of2 → tie.After-form-of
 first o = o .before .before .before .before .before .before .before
 
-abbrev start : tie.After-core-of2 → tie.Start
+abbrev start : tie.After-form-of2 → tie.Start
 start o = first o .before .before .before .before .before .before .before .before .before .before .before
 
 abbrev begun : tie.After-join-cores → tie.After-append
 begun j = j .before .before .before .before .before .before .before .before .before
 
-abbrev cored : tie.After-join-cores → tie.After-core-of2
+abbrev cored : tie.After-join-cores → tie.After-form-of2
 cored j = begun j .before .before .before .before .before
 
 abbrev led : tie.After-way → tie.After-join-cores
 led q = q .before .before .before .before .before .before .before .before .before .before
 
 -- what is asked, for one catalogue
-abbrev Asked : tie.After-core-of2 → List ℕ → Type 0
+abbrev Asked : tie.After-form-of2 → List ℕ → Type 0
 Asked o k = let s = start o .args in Plans k (s .conflicts .now) (s .v .now) (s .w .now) (s .commands)
 
 -- the cores, and the letters taken off
 
-one : (o : tie.After-core-of2) (k : List ℕ) → Asked o k
-    → (let r = first o .core-of in CoreOf k (start o .args .v .now)
+one : (o : tie.After-form-of2) (k : List ℕ) → Asked o k
+    → (let r = first o .form-of in CoreOf k (start o .args .v .now)
     (first o .before .before .before .before .sheet .result) (first o .before .before .before .sheet2 .result)
-    (r .last .1 .1 .0) (r .last .1 .1 .1 .0) (r .result .core) (r .result .lead))
-one o k p = first o .core-of .ensures k (p .first)
+    (r .last .1 .1 .0) (r .last .1 .1 .1 .0) (r .result .form) (r .result .lead))
+one o k p = core-of (first o .form-of .ensures k (p .first))
 
-two : (o : tie.After-core-of2) (k : List ℕ) → Asked o k
-    → (let r = o .core-of2 in CoreOf k (start o .args .w .now)
+two : (o : tie.After-form-of2) (k : List ℕ) → Asked o k
+    → (let r = o .form-of2 in CoreOf k (start o .args .w .now)
     (o .before .before .before .before .sheet3 .result) (o .before .before .before .sheet4 .result)
-    (r .last .1 .1 .0) (r .last .1 .1 .1 .0) (r .result .core) (r .result .lead))
-two o k p = o .core-of2 .ensures k (p .second)
+    (r .last .1 .1 .0) (r .last .1 .1 .1 .0) (r .result .form) (r .result .lead))
+two o k p = core-of (o .form-of2 .ensures k (p .second))
 
 -- what the way from core to core tells
 way : (j : tie.After-join-cores) (k : List ℕ) → Asked (cored j) k
-    → (let r = first (cored j) .core-of in let t = cored j .core-of2 in let a = begun j .append in
-    CoresLead k (take (r .result .core) (r .last .1 .1 .0)) (take (t .result .core) (t .last .1 .1 .0))
+    → (let r = first (cored j) .form-of in let t = cored j .form-of2 in let a = begun j .append in
+    CoresLead k (take (r .result .form) (r .last .1 .1 .0)) (take (t .result .form) (t .last .1 .1 .0))
     (a .last .0) (a .result) (j .join-cores .last .1 .1 .1 .1 .1 .1 .1 .0) (j .join-cores .result))
 way j k p =
     let o = cored j in
@@ -59,9 +60,9 @@ way j k p =
     (begun j .append .ensures))
 
 way-led : (q : tie.After-way) (k : List ℕ) → Asked (cored (led q)) k
-    → (let j = led q in let r = first (cored j) .core-of in let t = cored j .core-of2 in
+    → (let j = led q in let r = first (cored j) .form-of in let t = cored j .form-of2 in
     let a = begun j .append in
-    CoresLed k (take (r .result .core) (r .last .1 .1 .0)) (take (t .result .core) (t .last .1 .1 .0))
+    CoresLed k (take (r .result .form) (r .last .1 .1 .0)) (take (t .result .form) (t .last .1 .1 .0))
     (a .last .0) (a .result) (j .join-cores .last .1 .1 .1 .1 .1 .1 .1 .0) (q .way .given .0 .0))
 way-led q k p = cores-led k _ _ _ _ _ (way (led q) k p) (q .way .given .1)
 
@@ -71,14 +72,14 @@ sheet-requires c κs = search needs
 sheet-requires-2 : tie.Need-sheet-requires-2
 sheet-requires-2 c κs = search needs
 
-slice-aggregate-core-of : tie.Need-slice-aggregate-core-of
-slice-aggregate-core-of c = search needs
+slice-aggregate-form-of : tie.Need-slice-aggregate-form-of
+slice-aggregate-form-of c = search needs
 
-slice-aggregate-core-of-2 : tie.Need-slice-aggregate-core-of-2
-slice-aggregate-core-of-2 c = search needs
+slice-aggregate-form-of-2 : tie.Need-slice-aggregate-form-of-2
+slice-aggregate-form-of-2 c = search needs
 
-core-of-requires : tie.Need-core-of-requires
-core-of-requires c κs =
+form-of-requires : tie.Need-form-of-requires
+form-of-requires c κs =
     let s = c .before .before .before .before .before .before .before .before .before .before in
     let p = s .pre .2 .first in (
       s .pre .0,
@@ -95,14 +96,14 @@ sheet-requires-3 c κs = search needs
 sheet-requires-4 : tie.Need-sheet-requires-4
 sheet-requires-4 c κs = search needs
 
-slice-aggregate-core-of-3 : tie.Need-slice-aggregate-core-of-3
-slice-aggregate-core-of-3 c = search needs
+slice-aggregate-form-of-3 : tie.Need-slice-aggregate-form-of-3
+slice-aggregate-form-of-3 c = search needs
 
-slice-aggregate-core-of-4 : tie.Need-slice-aggregate-core-of-4
-slice-aggregate-core-of-4 c = search needs
+slice-aggregate-form-of-4 : tie.Need-slice-aggregate-form-of-4
+slice-aggregate-form-of-4 c = search needs
 
-core-of-requires-2 : tie.Need-core-of-requires-2
-core-of-requires-2 c κs =
+form-of-requires-2 : tie.Need-form-of-requires-2
+form-of-requires-2 c κs =
     let f = c .before .before .before .before .before .before in
     let s = f .before .before .before .before .before .before .before .before .before .before .before in
     let p = s .pre .2 .second in (
@@ -233,14 +234,14 @@ lead-spec =
     (tie.spec
     sheet-requires
     sheet-requires-2
-    slice-aggregate-core-of
-    slice-aggregate-core-of-2
-    core-of-requires
+    slice-aggregate-form-of
+    slice-aggregate-form-of-2
+    form-of-requires
     sheet-requires-3
     sheet-requires-4
-    slice-aggregate-core-of-3
-    slice-aggregate-core-of-4
-    core-of-requires-2
+    slice-aggregate-form-of-3
+    slice-aggregate-form-of-4
+    form-of-requires-2
     array-share-prefix-g
     slice-aggregate-append
     append-requires
