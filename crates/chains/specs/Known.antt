@@ -8,7 +8,7 @@ use lib.ListN.{length, getD}
 use lib.Dec.{ltb}
 use Rattle.catalogue.specs.Catalogue.{records, head, ends, chain, stands}
 use Rattle.catalogue.specs.Conflict.{bit}
-use Rattle.chains.specs.Marks.{cell, Shape}
+use Rattle.marking.specs.Marks.{cell, Shape}
 
 -- command i + 1 or j + 1 is below a and has the other in its chain
 abbrev pub met : List ℕ → ℕ → ℕ → ℕ → Bool

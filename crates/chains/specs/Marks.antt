@@ -1,54 +1,16 @@
--- Rows of marks, and the marks that a walk along a chain sets: two commands that meet are marked in the rows of both.
-use Prim.Native.Nat.{ℕ, zero, suc, _+_, _-_, _<_}
+-- Rows with no mark, with the marks of all chains, and with each command marked against itself.
+use Prim.Native.Nat.{ℕ, zero, suc, _+_, _<_}
 use mathlib.Core.Path.{_≡_}
 use mathlib.Core.Bool.{_||_}
-use mathlib.Core.List.{List, [], _∷_}
-use lib.ListN.{length, getD, set}
+use mathlib.Core.List.{List}
 use Rattle.catalogue.specs.Catalogue.{chain, stands}
 use Rattle.catalogue.specs.Conflict.{bit}
-
-abbrev pub cell : List (List ℕ) → ℕ → ℕ → ℕ
-cell rows i j = getD (getD rows i []) j 0
-
-pub record Shape (rows : List (List ℕ)) : Type 0 where
-  pub tall : length rows ≡ 24
-  pub wide : (i : ℕ) → i < 24 → length (getD rows i []) ≡ 24
+use Rattle.marking.specs.Marks.{cell, Shape, put}
 
 -- no mark is set
 pub record Blank (rows : List (List ℕ)) : Type 0 where
   pub shape : Shape rows
   pub clear : (i j : ℕ) → i < 24 → j < 24 → cell rows i j ≡ 0
-
-abbrev pub put : List (List ℕ) → ℕ → ℕ → List (List ℕ)
-put rows i j = set rows i (set (getD rows i []) j 1)
-
-abbrev pub pair : List (List ℕ) → ℕ → ℕ → List (List ℕ)
-pair rows a b = put (put rows (a - 1) (b - 1)) (b - 1) (a - 1)
-
-unfoldable pub pairs : List (List ℕ) → ℕ → List ℕ → List (List ℕ)
-pairs rows a [] = rows
-pairs rows a (b ∷ bs) = pairs (pair rows a b) a bs
-
--- the commands b of a list, noted in row a
-abbrev pub note : List (List ℕ) → ℕ → ℕ → List (List ℕ)
-note rows a b = put rows (a - 1) (b - 1)
-
-unfoldable pub notes : List (List ℕ) → ℕ → List ℕ → List (List ℕ)
-notes rows a [] = rows
-notes rows a (b ∷ bs) = notes (note rows a b) a bs
-
--- the commands above k whose flags are set, the first flag that of k + 1
-abbrev pub member : ℕ → ℕ → List ℕ → List ℕ
-member k zero ms = ms
-member k (suc f) ms = (k + 1) ∷ ms
-
-unfoldable pub members : ℕ → List ℕ → List ℕ
-members k [] = []
-members k (f ∷ fs) = member k f (members (k + 1) fs)
-
-abbrev pub markedIf : ℕ → List (List ℕ) → ℕ → ℕ → List (List ℕ)
-markedIf zero rows a b = rows
-markedIf (suc f) rows a b = pair rows a b
 
 -- a mark in row i at place i, for i below k
 unfoldable pub diagonal : List (List ℕ) → ℕ → List (List ℕ)

@@ -1,8 +1,8 @@
 -- `mark` sets two marks: the places lie within the rows, and the rows are then what `pair` says by computation.
 use mathlib.Core.Path.{refl}
 use native.Mathlib.Omega.{arith}
-use Rattle.chains.proofs.mark.Statement.{statement}
-use Rattle.chains.proofs.mark.Tie as tie
+use Rattle.marking.proofs.mark.Statement.{statement}
+use Rattle.marking.proofs.mark.Tie as tie
 
 sub-rows : tie.Need-sub-rows
 sub-rows c = omega arith

@@ -3,9 +3,9 @@ use Prim.Native.Nat.{_-_}
 use native.Mathlib.Omega.{arith}
 use mathlib.Core.List.{List, []}
 use lib.ListN.{getD}
-use Rattle.chains.specs.KnownLaws.{Liking, liking-start, liking-again, liking-end}
-use Rattle.chains.proofs.mark_like.Statement.{statement}
-use Rattle.chains.proofs.mark_like.Tie as tie
+use Rattle.marking.specs.MembersLaws.{Liking, liking-start, liking-again, liking-end}
+use Rattle.marking.proofs.mark_like.Statement.{statement}
+use Rattle.marking.proofs.mark_like.Tie as tie
 
 abbrev Inv-loop : tie.InvT-loop
 Inv-loop own b a rows₀ j₀ rows j = Liking a (getD own (b - 1) []) rows₀ rows j

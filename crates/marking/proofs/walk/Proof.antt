@@ -4,10 +4,10 @@ use Prim.Native.Nat.{_+_, _*_}
 use native.Mathlib.Omega.{arith}
 use Rattle.catalogue.specs.Catalogue.{commands}
 use mathlib.Core.Logic.{inl, inr}
-use Rattle.chains.specs.ChainLaws.{command-fit, Walking, walk-start, walk-again, walk-ended, walk-spent}
-use Rattle.chains.specs.ChainLaws.{Noting, note-start, note-again, note-ended}
-use Rattle.chains.proofs.walk.Statement.{statement}
-use Rattle.chains.proofs.walk.Tie as tie
+use Rattle.marking.specs.WalkLaws.{command-fit, Walking, walk-start, walk-again, walk-ended, walk-spent}
+use Rattle.marking.specs.WalkLaws.{Noting, note-start, note-again, note-ended}
+use Rattle.marking.proofs.walk.Statement.{statement}
+use Rattle.marking.proofs.walk.Tie as tie
 
 abbrev Inv-loop : tie.InvT-loop
 Inv-loop c a rows₀ own₀ n left₀ at₀ rows own left at = Walking c a rows₀ rows left at × Noting c a own₀ own left at

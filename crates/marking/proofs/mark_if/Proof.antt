@@ -1,10 +1,10 @@
 -- `mark_if` marks or leaves the rows as they are.
 use native.Mathlib.Omega.{arith}
 use mathlib.Core.Path.{_∙_}
-use Rattle.chains.specs.MarksLaws.{marked-if}
+use Rattle.marking.specs.MarksLaws.{marked-if}
 use borrow.Author.Needs.{needs}
-use Rattle.chains.proofs.mark_if.Statement.{statement}
-use Rattle.chains.proofs.mark_if.Tie as tie
+use Rattle.marking.proofs.mark_if.Statement.{statement}
+use Rattle.marking.proofs.mark_if.Tie as tie
 
 mark-requires : tie.Need-mark-requires
 mark-requires c κs = search needs

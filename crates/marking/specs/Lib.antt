@@ -1,0 +1,4 @@
+pub mod Marks
+pub mod MarksLaws
+pub mod MembersLaws
+pub mod WalkLaws
