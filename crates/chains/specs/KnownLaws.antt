@@ -152,6 +152,7 @@ module _ (c : List ℕ) (s : Sound c) (a : ℕ) (la : 1 ≤ a) (ha : a ≤ comma
             heads = w .heads;
             ending = w .ending;
             tells = λ j hj.
-                other (getD firsts x 0 - 1) j (omega (arith, w .one, w .below, few)) hj (λ e. omega (arith, w .one, w .below))
+                other (getD firsts x 0 - 1) j (omega (arith, w .one, w .below, few)) hj
+                (λ e. omega (arith, w .one, w .below))
                 (stands (j + 1) (chain c (getD firsts x 0))) (w .tells j hj);
           })

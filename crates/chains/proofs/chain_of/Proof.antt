@@ -39,7 +39,8 @@ element-copy-out-b c = below c
 cast-b : tie.Need-cast-b
 cast-b c =
     let s = c .before .before .before in
-    omega (arith, known-below (s .pre .1 .1 .0) (top (c .before)) (below (c .before)), s .pre .1 .1 .1 .1, s .pre .0 .framed .few)
+    let b = known-below (s .pre .1 .1 .0) (top (c .before)) (below (c .before)) in
+    omega (arith, b, s .pre .1 .1 .1 .1, s .pre .0 .framed .few)
 
 -- the first command with this head
 known : (c : tie.Then1) → let b = c .before in let s = b .before .before .before in
@@ -75,7 +76,8 @@ returns c =
     let known′ = s .pre .1 .1 .0 in (
       like-ends k (s .pre .0) (s .args .a) la ha known′ refl (known i),
       (
-        (λ e. like-chained k (s .pre .0) (s .args .a) la ha known′ refl (known i) (s .pre .1 .0) (c .mark-like .ensures)),
+        (λ e.
+            like-chained k (s .pre .0) (s .args .a) la ha known′ refl (known i) (s .pre .1 .0) (c .mark-like .ensures)),
         (λ e. like-known k (s .pre .0) (s .args .a) la ha known′),
       ),
     )

@@ -1,5 +1,5 @@
--- `each_chain` decides line 5. The loop's invariant: every chain before command a ends, the rows hold its marks, and the
--- first command with each head is known.
+-- `each_chain` decides line 5. The loop's invariant: every chain before command a ends, the rows hold its marks, and
+-- the first command with each head is known.
 use Prim.Native.Nat.{_+_, _-_}
 use native.Mathlib.Omega.{arith}
 use mathlib.Core.Path.{_≡_, refl, ap, sym, _∙_}
@@ -56,9 +56,8 @@ returns : tie.Need-returns Inv-loop μ-loop
 returns c =
     let cat = c .before .before .before .before .before .before .before .before .before .before .args .c .now in
     let stuck = ap not (sym (c .before .before .chain-of .ensures .0)) ∙ c .before .if1 .taken in
-    let hit =
-    search-hit (endless cat) (c .before .before .before .before .before .before .before .loop .inv .0) (omega arith) stuck
-    in
+    let g = c .before .before .before .before .before .before .before .loop in
+    let hit = search-hit (endless cat) (g .inv .0) (omega arith) stuck in
     let line = ap (lineAt 5 0 headPlace) hit in
     (decides cat (c .refused .result) line (c .refused .ensures), λ e. absurd (some-none (sym line ∙ e)))
 

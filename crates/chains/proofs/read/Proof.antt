@@ -16,10 +16,13 @@ sound-line c =
     let r = c .before .before .checked in
     passed-none cat (soundLine cat) (r .result) (r .ensures) (c .enum-told .given .1)
 
+abbrev before-chains : tie.After-enum-told3 → tie.After-enum-told
+before-chains c = c .before .before .before .before .before .before .before .before
+
 endless-line : (c : tie.After-enum-told3)
-    → endlessLine (c .before .before .before .before .before .before .before .before .before .before .before .before .args .catalogue .now) ≡ none
+    → endlessLine (before-chains c .before .before .before .before .args .catalogue .now) ≡ none
 endless-line c =
-    let cat = c .before .before .before .before .before .before .before .before .before .before .before .before .args .catalogue .now in
+    let cat = before-chains c .before .before .before .before .args .catalogue .now in
     let r = c .before .before .each-chain in
     passed-none cat (endlessLine cat) (r .result) (r .ensures .0) (c .enum-told3 .given .1)
 
@@ -76,7 +79,7 @@ returns-2 c =
 own-chain-requires : tie.Need-own-chain-requires
 own-chain-requires c κs =
     let y = c .before in
-    let x = y .before .before .before .before .before .before .before .before in (
+    let x = before-chains y in (
       sound-none (x .before .before .before .before .args .catalogue .now) (sound-line x) .framed,
       y .before .before .each-chain .ensures .1 (endless-line y),
     )
@@ -90,7 +93,7 @@ enum-told-5 c = search needs
 returns-3 : tie.Need-returns-3
 returns-3 c =
     let y = c .before .before .before .before in
-    let x = y .before .before .before .before .before .before .before .before in
+    let x = before-chains y in
     let cat = x .before .before .before .before .args .catalogue .now in
     let r = c .before .before .own-chain in
     let d = then-passed cat (endlessLine cat) (ownLine cat) (r .result) (endless-line y) (r .ensures) in
@@ -106,7 +109,7 @@ diagonal-requires c κs =
 returns-4 : tie.Need-returns-4
 returns-4 c =
     let y = c .before .before .before .before .before .before .before in
-    let x = y .before .before .before .before .before .before .before .before in
+    let x = before-chains y in
     let cat = x .before .before .before .before .args .catalogue .now in
     let r = c .before .before .before .before .before .own-chain in
     let d = then-passed cat (endlessLine cat) (ownLine cat) (r .result) (endless-line y) (r .ensures) in

@@ -102,7 +102,8 @@ loop-again c =
     let h = x .pre in
     let w = c .before .before .before .before .before .before .before .loop .inv in
     let (la, ha) = h .1 .1 .1 in (
-      walk-again (x .args .c .now) (h .0) (x .args .a) la ha (w .0) (omega arith) (omega arith) (c .before .meet .ensures .0),
+      walk-again (x .args .c .now) (h .0) (x .args .a) la ha (w .0) (omega arith) (omega arith)
+          (c .before .meet .ensures .0),
       note-again (x .args .c .now) (h .0) (x .args .a) la ha (w .1) (omega arith) (omega arith) (w .0 .within)
           (c .before .meet .ensures .1),
     )
