@@ -3,33 +3,38 @@ use Prim.Native.Nat.{ℕ, _+_, _-_, _<_, _≤_}
 use mathlib.Core.Path.{_≡_}
 use mathlib.Core.Logic.{_⊎_}
 use mathlib.Core.List.{List, [], _++_}
-use lib.ListN.{length, drop, set}
+use lib.ListN.{length, getD, drop, set}
 use Rattle.words.specs.All.{All}
 use Rattle.catalogue.specs.Conflict.{Conflicts}
 use Rattle.plan.specs.Byte.{commandOf}
 use Rattle.plan.specs.Lettered.{Lettered}
 use Rattle.plan.specs.Letters.{alphabet}
 use Rattle.conjugacy.specs.Settle.{split}
+use Rattle.sets.specs.Sets.{Clear, Table, Meeting, Added}
 use Rattle.settle.specs.declared.Halves.{Halves}
-use Rattle.settle.specs.Flags.{Flags, Clear}
 
--- a letter, its line of conflicts, the set of raised commands, and room for one more letter in both halves
-pub record Place (letter : ℕ) (line raised low high : List ℕ) (ends : Halves) : Type 0 where
+-- a letter, the set of raised commands, and room for one more letter in both halves
+pub record Place (letter : ℕ) (conflicts : List (List ℕ)) (raised low high : List ℕ) (ends : Halves) : Type 0 where
   pub lettered : Lettered letter
-  pub lines : Flags line
-  pub set : Flags raised
+  pub table : Table conflicts
+  pub meeting : Meeting conflicts raised
   pub lower : ends .low < length low
   pub upper : ends .high < length high
 
+-- the letter's line of conflicts
+abbrev pub lineOf : ℕ → List (List ℕ) → List ℕ
+lineOf letter conflicts = getD conflicts (commandOf letter - 1) []
+
 -- the letter is put in the lower half, or in the upper one and its command in the set
-pub data Placed (letter apex : ℕ) (line raised low high : List ℕ) (ends : Halves)
+pub data Placed (letter apex : ℕ) (conflicts : List (List ℕ)) (raised low high : List ℕ) (ends : Halves)
     : List ℕ → List ℕ → List ℕ → Halves → Type 0 where
-  below : (commandOf letter ≡ apex → ⊥) → Clear line raised
-      → Placed letter apex line raised low high ends raised (set low (ends .low) letter) high
+  below : (commandOf letter ≡ apex → ⊥) → Clear (lineOf letter conflicts) raised
+      → Placed letter apex conflicts raised low high ends raised (set low (ends .low) letter) high
       (record { low = ends .low + 1; high = ends .high })
-  above : (commandOf letter ≡ apex) ⊎ (Clear line raised → ⊥)
-      → Placed letter apex line raised low high ends (set raised (commandOf letter - 1) 1) low
-      (set high (ends .high) letter) (record { low = ends .low; high = ends .high + 1 })
+  above : {raised′ : List ℕ} → (commandOf letter ≡ apex) ⊎ (Clear (lineOf letter conflicts) raised → ⊥)
+      → Added (commandOf letter - 1) conflicts raised raised′
+      → Placed letter apex conflicts raised low high ends raised′ low (set high (ends .high) letter)
+      (record { low = ends .low; high = ends .high + 1 })
 
 -- a word of letters, the conflicts of catalogue c, and room for the word in both halves
 pub record Splittable (c word : List ℕ) (conflicts : List (List ℕ)) (low high : List ℕ) : Type 0 where

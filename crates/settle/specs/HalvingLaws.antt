@@ -20,9 +20,10 @@ use Rattle.conjugacy.specs.Settle.{hit, Split, stop, up}
 use Rattle.conjugacy.specs.Settle as Settle
 use Rattle.conjugacy.specs.SettleLaws.{split-unique}
 use Rattle.settle.specs.declared.Halves.{Halves}
-use Rattle.settle.specs.Flags.{Clear, noFlags}
-use Rattle.settle.specs.FlagsLaws.{Marks, marks-none, marks-add, line-flags, clear-meets, meets-clear}
-use Rattle.settle.specs.Halving.{Place, Placed, below, above, Splittable, Over, Halved}
+use Rattle.sets.specs.Sets.{Clear, Meeting, empty}
+use Rattle.sets.specs.SetsLaws.{empty-meeting}
+use Rattle.settle.specs.MarksLaws.{Marks, marks-none, marks-add, conflicts-table, clear-meets, meets-clear}
+use Rattle.settle.specs.Halving.{Place, lineOf, Placed, below, above, Splittable, Over, Halved}
 
 -- bytes written over the front of an array
 
@@ -51,12 +52,12 @@ over-take {p} {old} {new} {n} o = ap (take n) (o .holds) ∙ take-at p (drop n o
 
 module _ {c : List ℕ} {conflicts : List (List ℕ)} (table : Conflicts c conflicts) {s R : List ℕ} (m : Marks s R)
     (b : ℕ) (range : Lettered b) (apex : ℕ) where
-  hit-below : (commandOf b ≡ apex → ⊥) → Clear (getD conflicts (commandOf b - 1) []) s
+  hit-below : (commandOf b ≡ apex → ⊥) → Clear (lineOf b conflicts) s
       → hit (alphabet c) apex R b ≡ false
   unfolding hit
   hit-below n f = rw (ne-eqb (commandOf b) apex n, clear-meets table (commandOf b) (range .0) (range .1) m f) refl
 
-  hit-above : (commandOf b ≡ apex) ⊎ (Clear (getD conflicts (commandOf b - 1) []) s → ⊥)
+  hit-above : (commandOf b ≡ apex) ⊎ (Clear (lineOf b conflicts) s → ⊥)
       → hit (alphabet c) apex R b ≡ true
   unfolding hit
   hit-above (inl e) = rw (eq-eqb (commandOf b) apex e) refl
@@ -83,6 +84,7 @@ pub record Halfway (c : List ℕ) (apex : ℕ) (word low₀ high₀ raised low h
 pub record Halving (word : List ℕ) (apex : ℕ) (conflicts : List (List ℕ)) (low₀ high₀ low high raised : List ℕ)
     (ends : Halves) (i : ℕ) : Type 0 where
   pub within : i ≤ length word
+  pub meeting : Meeting conflicts raised
   pub count : ends .low + ends .high ≡ i
   pub half : (c : List ℕ) → Splittable c word conflicts low₀ high₀
       → Halfway c apex word low₀ high₀ raised low high ends i
@@ -97,10 +99,11 @@ pub splittable-at : {c word : List ℕ} {conflicts : List (List ℕ)} {low high 
 splittable-at {word = word} g i l = lettered-at word (g .letters) i l
 
 module _ {word : List ℕ} {apex : ℕ} {conflicts : List (List ℕ)} {low₀ high₀ : List ℕ} where
-  pub halving-start : {raised : List ℕ} → raised ≡ noFlags
+  pub halving-start : {raised : List ℕ} → raised ≡ empty
       → Halving word apex conflicts low₀ high₀ low₀ high₀ raised (record { low = 0; high = 0 }) 0
   halving-start e = record {
     within = omega arith;
+    meeting = rw e empty-meeting;
     count = refl;
     half = λ c g. record {
       R = [];
@@ -124,14 +127,14 @@ module _ {word : List ℕ} {apex : ℕ} {conflicts : List (List ℕ)} {low₀ hi
         )
 
     pub halving-place : {c : List ℕ} → Splittable c word conflicts low₀ high₀ → i < length word
-        → Place (getD word i 0) (getD conflicts (commandOf (getD word i 0) - 1) []) raised low high ends
+        → Place (getD word i 0) conflicts raised low high ends
     halving-place {c} g l =
         let (e, f) = halving-lengths g in
         let r = splittable-at g i l in
         record {
           lettered = r;
-          lines = line-flags (g .table) (commandOf (getD word i 0) - 1) (omega arith);
-          set = h .half c g .marks .flags;
+          table = conflicts-table (g .table);
+          meeting = h .meeting;
           lower = omega (arith, h .count, g .lower);
           upper = omega (arith, h .count, g .upper);
         }
@@ -141,11 +144,11 @@ module _ {word : List ℕ} {apex : ℕ} {conflicts : List (List ℕ)} {low₀ hi
     rest-at l = rw add-one (drop-cons word i 0 l)
 
     pub halving-again : {raised′ low′ high′ : List ℕ} {ends′ : Halves} → i < length word
-        → Placed (getD word i 0) apex (getD conflicts (commandOf (getD word i 0) - 1) []) raised low high ends
-        raised′ low′ high′ ends′
+        → Placed (getD word i 0) apex conflicts raised low high ends raised′ low′ high′ ends′
         → Halving word apex conflicts low₀ high₀ low′ high′ raised′ ends′ (i + 1)
     halving-again l (below n f) = record {
       within = omega arith;
+      meeting = h .meeting;
       count = omega (arith, h .count);
       half = λ c g.
           let t = h .half c g in
@@ -163,8 +166,9 @@ module _ {word : List ℕ} {apex : ℕ} {conflicts : List (List ℕ)} {low₀ hi
                 (t .onward (b ∷ x) y (rw (rest-at l) (Settle.low k s)));
           };
     }
-    halving-again l (above d) = record {
+    halving-again l (above d a) = record {
       within = omega arith;
+      meeting = a .meeting;
       count = omega (arith, h .count);
       half = λ c g.
           let t = h .half c g in
@@ -175,7 +179,7 @@ module _ {word : List ℕ} {apex : ℕ} {conflicts : List (List ℕ)} {low₀ hi
             R = commandOf b ∷ t .R;
             p = t .p;
             q = t .q ++ b ∷ [];
-            marks = marks-add (commandOf b) (r .0) (r .1) (t .marks);
+            marks = marks-add (commandOf b) (r .0) (r .1) a (t .marks);
             lower = t .lower;
             upper = over-more b (omega (arith, h .count, g .upper)) (t .upper);
             onward = λ x y s.

@@ -1,5 +1,4 @@
-pub mod Flags
-pub mod FlagsLaws
+pub mod MarksLaws
 pub mod Halving
 pub mod HalvingLaws
 pub mod Settling

@@ -1,13 +1,13 @@
 // Settling a word on its apex, in place: document 01's rounds, each a split of the word and an exchange of its halves.
 
+use sets::add;
+use sets::independent;
+use sets::none;
 ghost use Prim.Native.Nat.{ℕ, _+_, _≤_};
 ghost use mathlib.Core.Path.{_≡_};
-ghost use mathlib.Core.Bool.{true};
-ghost use mathlib.Core.Logic.{_↔_};
 ghost use mathlib.Core.List.{List};
 ghost use lib.ListN.{length};
 ghost use lib.Seq.{paste};
-ghost use Rattle.settle.specs.Flags.{Flags, Clear, noFlags};
 ghost use Rattle.settle.specs.Halving.{Place, Placed, Splittable, Halved};
 ghost use Rattle.settle.specs.Settling.{Exchange, Exchanged, Settleable, Answered};
 
@@ -23,46 +23,25 @@ pub enum Settled {
     Unsettled,
 }
 
-// Whether a command, whose line of conflicts is given, is independent of every command in the set.
-pub fn independent(line: &[u16; 24], set: &[u16; 24]) -> bool
-    requires { ⌜ Flags (now line) × Flags (now set) ⌝ }
-    ensures { λ r. ⌜ ((r ≡ true) ↔ Clear (now (line .entry)) (now (set .entry))) ⌝ }
-{
-    let mut met: u16 = 0;
-    let mut j = 0;
-    while j < 24 {
-        met += line[j] * set[j];
-        j += 1;
-    }
-    met == 0
-}
-
-// The set of no command.
-fn empty_set() -> [u16; 24]
-    ensures { λ r. ⌜ r ≡ noFlags ⌝ }
-{
-    [0; 24]
-}
-
-// One letter, whose line of conflicts is given, goes to its half. If it goes to the upper one its command is raised.
+// One letter goes to its half. If it goes to the upper one its command is raised.
 fn place(
     letter: u8,
     apex: usize,
-    line: &[u16; 24],
+    conflicts: &[[u16; 24]; 24],
     raised: &mut [u16; 24],
     low: &mut [u8],
     high: &mut [u8],
     ends: Halves,
 ) -> Halves
-    requires { ⌜ Place letter (now line) (now raised) (now low) (now high) ends ⌝ }
-    ensures { λ r. ⌜ Placed letter apex (now (line .entry)) (now (raised .entry)) (now (low .entry)) (now (high .entry))
-        ends (now (raised .exit)) (now (low .exit)) (now (high .exit)) r ⌝ }
+    requires { ⌜ Place letter (now conflicts) (now raised) (now low) (now high) ends ⌝ }
+    ensures { λ r. ⌜ Placed letter apex (now (conflicts .entry)) (now (raised .entry)) (now (low .entry))
+        (now (high .entry)) ends (now (raised .exit)) (now (low .exit)) (now (high .exit)) r ⌝ }
 {
     let k = (letter % 128) as usize;
     let l = ends.low;
     let h = ends.high;
     if k != apex {
-        if independent(line, raised) {
+        if independent(k - 1, conflicts, raised) {
             low[l] = letter;
             return Halves {
                 low: l + 1,
@@ -71,7 +50,7 @@ fn place(
         }
     }
     high[h] = letter;
-    raised[k - 1] = 1;
+    add(k - 1, conflicts, raised);
     Halves {
         low: l,
         high: h + 1,
@@ -92,20 +71,11 @@ fn split(
         → Halved c apex (now (word .entry)) (now (low .entry)) (now (high .entry)) (now (low .exit)) (now (high .exit))
         r) ⌝ }
 {
-    let mut raised = empty_set();
+    let mut raised = none();
     let mut ends = Halves { low: 0, high: 0 };
     let mut i = 0;
     while i < word.len() {
-        let letter = word[i];
-        ends = place(
-            letter,
-            apex,
-            &conflicts[(letter % 128) as usize - 1],
-            &mut raised,
-            low,
-            high,
-            ends,
-        );
+        ends = place(word[i], apex, conflicts, &mut raised, low, high, ends);
         i += 1;
     }
     ends
