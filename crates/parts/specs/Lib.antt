@@ -8,3 +8,4 @@ pub mod MergeLaws
 pub mod Copy
 pub mod CopyLaws
 pub mod ApexLaws
+pub mod LetterLaws
