@@ -1,9 +1,9 @@
 -- A whole piling, with every bottom at 0, has left the word piled up.
 use Prim.Native.Nat.{ℕ, _+_, _<_}
-use mathlib.Core.Path.{_≡_, refl, _∙_, ap}
+use mathlib.Core.Path.{_≡_, _∙_, ap}
 use mathlib.Core.List.{List, [], reverse}
 use native.Mathlib.Omega.{arith}
-use lib.ListN.{length, getD, getD-replicate}
+use lib.ListN.{length, getD}
 use lib.Seq.{slice}
 use Rattle.words.specs.All.{All, all-reverse}
 use Rattle.words.specs.StackLaws.{stack-read}
@@ -14,14 +14,7 @@ use Rattle.beads.specs.BeadsLaws.{beads-fit}
 use Rattle.piling.specs.Piling.{Piled}
 use Rattle.piling.specs.PilingLaws.{piled-beads}
 use Rattle.reading.specs.Reading.{Left}
-
-bottom-zero : (i : ℕ) → i < 24 → getD blankHeights i 0 ≡ 0
-unfolding blankHeights
-bottom-zero i l = getD-replicate 24 i 0 0 l
-
-bottoms-many : length blankHeights ≡ 24
-unfolding blankHeights
-bottoms-many = refl
+use Rattle.reading.specs.BlankLaws.{blank-zero, blank-many}
 
 module _ {c : List ℕ} {rows : List (List ℕ)} {heights z : List ℕ} (p : Piled c rows heights z)
     (h : All Lettered z) where
@@ -29,12 +22,12 @@ module _ {c : List ℕ} {rows : List (List ℕ)} {heights z : List ℕ} (p : Pil
   piled-left = record {
     room = record {
       shape = p .shape;
-      many = bottoms-many;
-      low = λ i l. omega (arith, bottom-zero i l);
+      many = blank-many;
+      low = λ i l. omega (arith, blank-zero i l);
       high = λ i l. beads-fit (piled-beads p i l);
     };
     letters = all-reverse Lettered z h;
     beads = λ i l.
-        ap (λ n. slice n (getD heights i 0) (getD rows i [])) (bottom-zero i l)
+        ap (λ n. slice n (getD heights i 0) (getD rows i [])) (blank-zero i l)
         ∙ p .stack i l ∙ stack-read (alphabet c) 0 (i + 1) z;
   }

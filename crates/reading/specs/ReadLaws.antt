@@ -14,7 +14,9 @@ use Rattle.catalogue.specs.Conflict.{Conflicts}
 use Rattle.beads.specs.Heights.{Both, Changed}
 use Rattle.plan.specs.Byte.{commandOf}
 use Rattle.plan.specs.Letters.{alphabet}
-use Rattle.reading.specs.Reading.{lowest, Room, FirstReady, Left, Readable, ReadOff}
+use Rattle.reading.specs.Reading.{lowest, Room, Passed, FirstReady, Left, Readable, ReadOff}
+use Rattle.reading.specs.Starts.{Starts}
+use Rattle.reading.specs.StartsLaws.{start-passed}
 use Rattle.reading.specs.LeftLaws.{left-shows, left-least, left-none, left-fits, left-next}
 
 pub record Going (rows : List (List ℕ)) (heights c x before at area : List ℕ) (l : ℕ) (y : List ℕ) : Type 0 where
@@ -138,3 +140,7 @@ module _ {conflicts rows : List (List ℕ)} {heights bottoms before at area : Li
 
       pub written-room : {after : List ℕ} → Changed _+_ (getD conflicts k []) at after → Room rows heights after
       written-room a = let (c, x, r) = some in going-on (w .going c x r .1) (w .first) h (r .table) a .1 .left .room
+
+      pub written-passed : {starts after : List ℕ} → Starts conflicts starts
+          → Changed _+_ (getD conflicts k []) at after → Passed rows heights after (getD starts k 0)
+      written-passed s a = let (c, x, r) = some in start-passed (r .table) s h (w .first) a

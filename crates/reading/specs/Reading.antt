@@ -29,6 +29,11 @@ module _ (rows : List (List ℕ)) (heights : List ℕ) where
   abbrev pub Ready : List ℕ → ℕ → Type 0
   Ready at i = (getD at i 0 < getD heights i 0) × (lowest rows at i ≡ 0 → ⊥)
 
+  -- no row below k is ready
+  pub record Passed (at : List ℕ) (k : ℕ) : Type 0 where
+    pub within : k ≤ 24
+    pub none : (i : ℕ) → i < k → Ready at i → ⊥
+
   -- k is the first row that is ready, or 24 where none is
   pub record FirstReady (at : List ℕ) (k : ℕ) : Type 0 where
     pub within : k ≤ 24

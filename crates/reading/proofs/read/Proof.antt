@@ -12,27 +12,37 @@ use Rattle.reading.specs.ReadLaws.{
   written-fits,
   written-lift,
   written-room,
+  written-passed,
 }
+use Rattle.reading.specs.ReadyLaws.{passed-start}
 use Rattle.reading.proofs.read.Statement.{statement}
 use Rattle.reading.proofs.read.Tie as tie
 
 abbrev Inv-loop : tie.InvT-loop
-Inv-loop rows heights at₀ conflicts area₀ l₀ k₀ at area l k = Written conflicts rows heights at₀ area₀ at area l k
+Inv-loop rows heights at₀ conflicts area₀ starts l₀ k₀ at area l k =
+    Written conflicts rows heights at₀ area₀ at area l k
 
 abbrev μ-loop : tie.MeasureT-loop
-μ-loop rows heights at₀ conflicts area₀ l₀ k₀ at area l k = length area - l
+μ-loop rows heights at₀ conflicts area₀ starts l₀ k₀ at area l k = length area - l
 
 index : (c : tie.In-loop Inv-loop μ-loop) → getD (c .before .loop .at) (c .before .loop .k) 0 < 1024
-index c = written-index (c .before .loop .inv) (c .loop-test .taken) (c .before .before .before .before .before .pre)
+index c =
+    let s = c .before .before .before .before .before .before in
+    written-index (c .before .loop .inv) (c .loop-test .taken) (s .pre)
 
 fits : (c : tie.In-loop Inv-loop μ-loop) → c .before .loop .l < length (c .before .loop .area)
-fits c = written-fits (c .before .loop .inv) (c .loop-test .taken) (c .before .before .before .before .before .pre)
+fits c =
+    let s = c .before .before .before .before .before .before in
+    written-fits (c .before .loop .inv) (c .loop-test .taken) (s .pre)
 
-ready-requires : tie.Need-ready-requires Inv-loop μ-loop
-ready-requires c κs = c .before .before .pre .2 .left .room
+starts-requires : tie.Need-starts-requires Inv-loop μ-loop
+starts-requires c κs = let (t, x, r) = c .before .pre in (t, r .table)
+
+ready-from-requires : tie.Need-ready-from-requires Inv-loop μ-loop
+ready-from-requires c κs = (c .before .before .before .pre .2 .left .room, passed-start _ _ _)
 
 loop-holds : tie.Need-loop-holds Inv-loop μ-loop
-loop-holds c = written-start (c .ready .ensures)
+loop-holds c = written-start (c .ready-from .ensures)
 
 mul-area : tie.Need-mul-area Inv-loop μ-loop
 mul-area c = omega arith
@@ -58,7 +68,7 @@ slice-write-area c = fits (c .before .before)
 add-l : tie.Need-add-l Inv-loop μ-loop
 add-l c =
     let a = c .before .before .before in
-    let s = a .before .before .before .before in
+    let s = a .before .before .before .before .before in
     omega (arith, fits (c .before .before), written-long (a .loop .inv) (s .pre), s .good .1 .1 .1 .1 .0)
 
 mul-lift : tie.Need-mul-lift Inv-loop μ-loop
@@ -70,13 +80,28 @@ index-1-lift c = omega arith
 lift-requires : tie.Need-lift-requires Inv-loop μ-loop
 lift-requires c κs =
     let i = c .before .before .before .before in
-    written-lift (i .before .loop .inv) (i .loop-test .taken) (i .before .before .before .before .before .pre)
+    written-lift (i .before .loop .inv) (i .loop-test .taken) (i .before .before .before .before .before .before .pre)
 
-ready-requires-2 : tie.Need-ready-requires-2 Inv-loop μ-loop
-ready-requires-2 c κs =
+mul-next : tie.Need-mul-next Inv-loop μ-loop
+mul-next c = omega arith
+
+array-read-next : tie.Need-array-read-next Inv-loop μ-loop
+array-read-next c = omega arith
+
+cast-next : tie.Need-cast-next Inv-loop μ-loop
+cast-next c =
     let i = c .before .before .before .before .before .before in
-    written-room (i .before .loop .inv) (i .loop-test .taken) (i .before .before .before .before .before .pre)
-    (c .before .lift .ensures)
+    let s = i .before .before .before .before .starts .ensures in
+    omega (arith, s .within (i .before .loop .k) (i .loop-test .taken))
+
+next-requires : tie.Need-next-requires Inv-loop μ-loop
+next-requires c κs =
+    let i = c .before .before .before .before .before .before in
+    let p = i .before .before .before .before .before .before .pre in
+    let s = i .before .before .before .before .starts .ensures in (
+      written-room (i .before .loop .inv) (i .loop-test .taken) p (c .before .lift .ensures),
+      written-passed (i .before .loop .inv) (i .loop-test .taken) p s (c .before .lift .ensures),
+    )
 
 loop-less : tie.Need-loop-less Inv-loop μ-loop
 loop-less c =
@@ -86,10 +111,10 @@ loop-less c =
 loop-again : tie.Need-loop-again Inv-loop μ-loop
 loop-again c =
     let i = c .before .before .before .before .before .before .before in
-    written-again (i .before .loop .inv) (i .loop-test .taken) (c .before .before .lift .ensures) (c .ready2 .ensures)
+    written-again (i .before .loop .inv) (i .loop-test .taken) (c .before .before .lift .ensures) (c .next .ensures)
 
 same-length : tie.Need-same-length Inv-loop μ-loop
-same-length c = written-long (c .before .loop .inv) (c .before .before .before .before .before .pre)
+same-length c = written-long (c .before .loop .inv) (c .before .before .before .before .before .before .pre)
 
 returns : tie.Need-returns Inv-loop μ-loop
 returns c = written-end (c .before .loop .inv) (c .loop-test .left)
@@ -100,7 +125,8 @@ read-spec =
     (tie.spec
     Inv-loop
     μ-loop
-    ready-requires
+    starts-requires
+    ready-from-requires
     loop-holds
     mul-area
     element-copy-out-area
@@ -113,7 +139,10 @@ read-spec =
     mul-lift
     index-1-lift
     lift-requires
-    ready-requires-2
+    mul-next
+    array-read-next
+    cast-next
+    next-requires
     loop-less
     loop-again
     same-length

@@ -1,16 +1,15 @@
 -- `reading::ready` meets its contract: no row below k is ready.
-use Prim.Native.Nat.{_-_, _<_}
-use lib.ListN.{getD}
-use denote.Ref.{now}
+use Prim.Native.Nat.{_-_}
 use native.Mathlib.Omega.{arith}
 use mathlib.Core.Logic.{⊎-elim}
+use Rattle.reading.specs.Reading.{Passed}
 use Rattle.reading.specs.ReadyLaws.{
-  ready-index,
-  Passed,
+  room-low,
+  in-row,
   passed-start,
   passed-empty,
-  passed-blank,
-  passed-found,
+  passed-wrapped,
+  passed-bead,
   passed-all,
 }
 use Rattle.reading.proofs.ready.Statement.{statement}
@@ -22,13 +21,6 @@ Inv-loop rows heights at k₀ k = Passed rows heights at k
 abbrev μ-loop : tie.MeasureT-loop
 μ-loop rows heights at k₀ k = 24 - k
 
--- a bead that is left is one of the row's 1,024
-index : (c : tie.Then1 Inv-loop μ-loop)
-    → let a = c .before .before .before .before in getD (now (a .before .args .at)) (a .loop .k) 0 < 1024
-index c =
-    let i = c .before .before .before in
-    ready-index (i .before .before .pre) (i .loop-test .taken) (c .if1 .taken)
-
 loop-holds : tie.Need-loop-holds Inv-loop μ-loop
 loop-holds c = passed-start _ _ _
 
@@ -38,11 +30,17 @@ mul-if1 c = omega arith
 element-copy-out-if1 : tie.Need-element-copy-out-if1 Inv-loop μ-loop
 element-copy-out-if1 c = omega arith
 
+cast-if1 : tie.Need-cast-if1 Inv-loop μ-loop
+cast-if1 c = let t = c .before .before in omega (arith, room-low (t .before .pre) (t .loop .k) (omega arith))
+
 mul-if1-2 : tie.Need-mul-if1-2 Inv-loop μ-loop
 mul-if1-2 c = omega arith
 
-element-copy-out-if1-2 : tie.Need-element-copy-out-if1-2 Inv-loop μ-loop
-element-copy-out-if1-2 c = omega arith
+index-1-if1 : tie.Need-index-1-if1 Inv-loop μ-loop
+index-1-if1 c = omega arith
+
+index-2-if1 : tie.Need-index-2-if1 Inv-loop μ-loop
+index-2-if1 c = in-row _
 
 mul-if2 : tie.Need-mul-if2 Inv-loop μ-loop
 mul-if2 c = omega arith
@@ -50,23 +48,17 @@ mul-if2 c = omega arith
 element-copy-out-if2 : tie.Need-element-copy-out-if2 Inv-loop μ-loop
 element-copy-out-if2 c = omega arith
 
-cast-if2 : tie.Need-cast-if2 Inv-loop μ-loop
-cast-if2 c = omega (arith, index (c .before))
-
 mul-if2-2 : tie.Need-mul-if2-2 Inv-loop μ-loop
 mul-if2-2 c = omega arith
 
-index-1-if2 : tie.Need-index-1-if2 Inv-loop μ-loop
-index-1-if2 c = omega arith
-
-index-2-if2 : tie.Need-index-2-if2 Inv-loop μ-loop
-index-2-if2 c = index (c .before)
+element-copy-out-if2-2 : tie.Need-element-copy-out-if2-2 Inv-loop μ-loop
+element-copy-out-if2-2 c = omega arith
 
 returns : tie.Need-returns Inv-loop μ-loop
 returns c =
     let i = c .before .before .before .before .before .before in
     let t = c .before .before .before .if1 .taken in
-    passed-found (i .before .loop .inv) (i .loop-test .taken) (t, c .if2 .taken)
+    passed-bead (i .before .loop .inv) (i .before .before .pre) (i .loop-test .taken) t (c .if2 .taken)
 
 add-k : tie.Need-add-k Inv-loop μ-loop
 add-k c = omega arith
@@ -78,8 +70,8 @@ loop-again : tie.Need-loop-again Inv-loop μ-loop
 loop-again c =
     let i = c .before .before .before in
     ⊎-elim
-    (λ w. passed-blank (i .before .loop .inv) (i .loop-test .taken) (w .3 .left))
-    (λ w. passed-empty (i .before .loop .inv) (i .loop-test .taken) (w .left))
+    (λ w. passed-empty (i .before .loop .inv) (i .loop-test .taken) (w .3 .left))
+    (λ w. passed-wrapped (i .before .loop .inv) (i .before .before .pre) (i .loop-test .taken) (w .left))
     (c .if1 .came)
 
 returns-2 : tie.Need-returns-2 Inv-loop μ-loop
@@ -94,14 +86,14 @@ ready-spec =
     loop-holds
     mul-if1
     element-copy-out-if1
+    cast-if1
     mul-if1-2
-    element-copy-out-if1-2
+    index-1-if1
+    index-2-if1
     mul-if2
     element-copy-out-if2
-    cast-if2
     mul-if2-2
-    index-1-if2
-    index-2-if2
+    element-copy-out-if2-2
     returns
     add-k
     loop-less
