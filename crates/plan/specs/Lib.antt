@@ -4,6 +4,7 @@ pub mod Plan
 pub mod Byte
 pub mod ByteLaws
 pub mod PlanLaws
+pub mod FaultLaws
 pub mod CommandLaws
 pub mod Letters
 pub mod LettersLaws

@@ -3,10 +3,13 @@
 use refusal::Checked;
 use refusal::Reason;
 use refusal::Refusal;
+ghost use Prim.Native.Nat.{_<_};
 ghost use mathlib.Core.Path.{_≡_};
+ghost use mathlib.Core.Bool.{true};
+ghost use mathlib.Core.Logic.{_↔_};
 ghost use lib.ListN.{length};
 ghost use Rattle.refusal.specs.Line.{numberOf, line, refused, toldChecked, orElse, firstLine};
-ghost use Rattle.plan.specs.Plan.{passes, firstBad, planLines};
+ghost use Rattle.plan.specs.Plan.{passes, firstBad, planLines, Passing};
 ghost use Rattle.plan.specs.Byte.{undone};
 ghost use Rattle.plan.specs.Place.{toldPlace};
 
@@ -30,8 +33,37 @@ fn passing(b: u8, commands: usize) -> bool
     k - 128 <= commands
 }
 
-// The first byte that does not pass.
-fn first_bad(plan: &[u8], commands: usize) -> Place
+// 0 for a byte that passes, 1 for one that does not.
+fn fault(b: u8, commands: u8) -> u8
+    requires { ⌜ commands < 128 ⌝ }
+    ensures { λ r. ⌜ ((r ≡ 0) ↔ (passes commands b ≡ true)) ⌝ }
+{
+    if b == 128 {
+        return 1;
+    }
+    if commands < b % 128 {
+        return 1;
+    }
+    0
+}
+
+// Whether every byte passes. The faults are gathered, with no way out of the loop, so that many bytes are tested at a
+// time.
+fn all_pass(plan: &[u8], commands: u8) -> bool
+    requires { ⌜ commands < 128 ⌝ }
+    ensures { λ r. ⌜ ((r ≡ true) ↔ Passing commands (now (plan .entry))) ⌝ }
+{
+    let mut faults: u8 = 0;
+    let mut j = 0;
+    while j < plan.len() {
+        faults |= fault(plan[j], commands);
+        j += 1;
+    }
+    faults == 0
+}
+
+// The first byte that does not pass, byte by byte.
+fn find_bad(plan: &[u8], commands: usize) -> Place
     ensures { λ r. ⌜ toldPlace r ≡ firstBad commands (now (plan .entry)) ⌝ }
 {
     let mut i = 0;
@@ -42,6 +74,18 @@ fn first_bad(plan: &[u8], commands: usize) -> Place
         i += 1;
     }
     Place::Nowhere
+}
+
+// The first byte that does not pass. Where there is none the byte by byte search is spared.
+fn first_bad(plan: &[u8], commands: usize) -> Place
+    ensures { λ r. ⌜ toldPlace r ≡ firstBad commands (now (plan .entry)) ⌝ }
+{
+    if commands < 128 {
+        if all_pass(plan, commands as u8) {
+            return Place::Nowhere;
+        }
+    }
+    find_bad(plan, commands)
 }
 
 // This plan is refused, for this reason and at this place.

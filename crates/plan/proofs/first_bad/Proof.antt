@@ -1,60 +1,27 @@
--- `plan::first_bad` meets its contract. The loop's invariant: a search from place 0 has come to i. The measure is what
--- is left of the plan. Assumes nothing.
-use Prim.Native.Nat.{_-_}
-use mathlib.Core.Path.{sym, ap, _∙_}
-use mathlib.Core.Bool.{not}
+-- `plan::first_bad` meets its contract: where every byte passes there is no first that does not.
+use mathlib.Core.Path.{sym}
 use native.Mathlib.Omega.{arith}
-use lib.ListN.{length, getD}
-use Rattle.refusal.specs.SearchLaws.{Searching, search-start, search-again, search-hit, search-end}
-use Rattle.plan.specs.Plan.{passes}
+use Rattle.plan.specs.PlanLaws.{passing-bad}
 use Rattle.plan.proofs.first_bad.Statement.{statement}
 use Rattle.plan.proofs.first_bad.Tie as tie
 
-abbrev Inv-loop : tie.InvT-loop
-Inv-loop plan commands i₀ i = Searching (λ k. not (passes commands (getD plan k 0))) (length plan) 0 i
+cast-all-pass : tie.Need-cast-all-pass
+cast-all-pass c = omega arith
 
-abbrev μ-loop : tie.MeasureT-loop
-μ-loop plan commands i₀ i = length plan - i
+all-pass-requires : tie.Need-all-pass-requires
+all-pass-requires c κs = omega arith
 
-loop-holds : tie.Need-loop-holds Inv-loop μ-loop
-loop-holds c = search-start _ _ 0
-
-shared-slice-read-passing : tie.Need-shared-slice-read-passing Inv-loop μ-loop
-shared-slice-read-passing c = omega arith
-
-passing-requires : tie.Need-passing-requires Inv-loop μ-loop
-passing-requires c κs = tt
-
-returns : tie.Need-returns Inv-loop μ-loop
+returns : tie.Need-returns
 returns c =
-    let t = ap not (sym (c .before .passing .ensures)) ∙ c .if1 .taken in
-    sym (search-hit _ (c .before .before .before .before .loop .inv) (omega arith) t)
+    let a = c .before .before .before .before .args in
+    sym (passing-bad (a .commands) (a .plan .now) (c .before .all-pass .ensures .0 (c .if2 .taken)))
 
-add-i : tie.Need-add-i Inv-loop μ-loop
-add-i c = omega arith
+find-bad-requires : tie.Need-find-bad-requires
+find-bad-requires c κs = tt
 
-loop-less : tie.Need-loop-less Inv-loop μ-loop
-loop-less c = omega arith
-
-loop-again : tie.Need-loop-again Inv-loop μ-loop
-loop-again c =
-    let t = ap not (sym (c .before .passing .ensures)) ∙ c .if1 .left in
-    search-again _ (c .before .before .before .before .loop .inv) (omega arith) t
-
-returns-2 : tie.Need-returns-2 Inv-loop μ-loop
-returns-2 c = sym (search-end _ (c .before .loop .inv) (omega arith))
+returns-2 : tie.Need-returns-2
+returns-2 c = c .find-bad .ensures
 
 pub first-bad-spec : {M : Type 1} → statement M
 first-bad-spec =
-    tie.close
-    (tie.spec
-    Inv-loop
-    μ-loop
-    loop-holds
-    shared-slice-read-passing
-    passing-requires
-    returns
-    add-i
-    loop-less
-    loop-again
-    returns-2)
+    tie.close (tie.spec cast-all-pass all-pass-requires returns find-bad-requires returns-2)
