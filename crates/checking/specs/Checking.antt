@@ -33,12 +33,6 @@ abbrev pub Multiplied : List (List ℕ) → List ℕ → List ℕ → List ℕ �
 Multiplied conflicts first second before after r =
     (c : List ℕ) → Factors c conflicts first second before → Written c (first ++ second) before after r
 
--- a row for n bytes, and two rows of numbers to work in
-pub record Rows (n : ℕ) (row under link : List ℕ) : Type 0 where
-  pub bytes : n ≤ length row
-  pub unders : n ≤ length under
-  pub links : n ≤ length link
-
 -- plans v and w and a lead-in u that have passed lines 7 and 8, and areas with room for v·u and u·w
 pub record Checkable (c : List ℕ) (conflicts : List (List ℕ)) (v w u area0 area1 : List ℕ) : Type 0 where
   pub table : Conflicts c conflicts

@@ -11,10 +11,11 @@ use Rattle.words.specs.All.{all-append}
 use Rattle.plan.specs.Letters.{normalForm}
 use Rattle.plan.specs.LettersLaws.{letters-length}
 use Rattle.reduction.specs.Reducing.{Given}
-use Rattle.longform.specs.Form.{Room, Written}
+use Rattle.longform.specs.Form.{Written}
+use Rattle.forming.specs.Forming.{Formable}
 use Rattle.row.specs.Row.{Appended}
 use Rattle.row.specs.RowLaws.{appended-length, appended-take}
-use Rattle.checking.specs.Checking.{Joined, Factors, Rows, Checkable, CheckedIn}
+use Rattle.checking.specs.Checking.{Joined, Factors, Checkable, CheckedIn}
 
 -- two words appended, the second behind the first
 pub appended-joined : {row₀ row₁ row₂ first second : List ℕ} {middle end : ℕ} → Appended row₀ 0 first row₁ middle
@@ -38,15 +39,17 @@ module _ {first second row : List ℕ} {end : ℕ} (j : Joined first second row 
     short = omega (arith, length-append first second, f .short);
   })
 
-  pub joined-room : {before under link : List ℕ} → Rows (length first + length second) before under link
-      → Room (take end row) under link area
-  joined-room s =
-      let l = length-append first second in
-      rw (j .begins) (record {
-        unders = omega (arith, s .unders);
-        links = omega (arith, s .links);
-        fits = omega (arith, letters-length (first ++ second), f .fits);
-      })
+  pub joined-formable : Formable 50176 c conflicts (take end row) area
+  joined-formable = record {
+    given = joined-given;
+    short = joined-given .short;
+    fits = rw (j .begins) (omega (
+      arith,
+      letters-length (first ++ second),
+      length-append first second,
+      f .fits,
+    ));
+  }
 
 pub joined-written : {first second row c before after : List ℕ} {end r : ℕ} → Joined first second row end
     → Written c (take end row) before after r → Written c (first ++ second) before after r
@@ -59,10 +62,6 @@ module _ {c word before after : List ℕ} {r : ℕ} (w : Written c word before a
 
   pub written-take : take r after ≡ normalForm c word
   written-take = ap (take r) (w .bytes) ∙ take-at (normalForm c word) (drop r before) r (sym (w .count))
-
-pub rows-by : {n limit : ℕ} {row under link : List ℕ} → n ≤ limit → limit ≡ length row → limit ≡ length under
-    → limit ≡ length link → Rows n row under link
-rows-by h e f g = record { bytes = omega arith; unders = omega arith; links = omega arith }
 
 module _ {c : List ℕ} {conflicts : List (List ℕ)} {v w u before0 before1 : List ℕ}
     (k : Checkable c conflicts v w u before0 before1) where

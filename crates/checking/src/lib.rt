@@ -1,7 +1,7 @@
 // The lead-in check of plans that have passed their checks: the normal forms of v·u and u·w, and whether they are the
 // same.
 
-use longform::normal_form;
+use forming::form;
 use row::append;
 ghost use Prim.Native.Nat.{ℕ, _+_, _≤_};
 ghost use mathlib.Core.Path.{_≡_};
@@ -9,7 +9,7 @@ ghost use mathlib.Core.Bool.{true};
 ghost use mathlib.Core.List.{List};
 ghost use mathlib.Core.Logic.{_↔_};
 ghost use lib.ListN.{length};
-ghost use Rattle.checking.specs.Checking.{Joined, Factors, Rows, Multiplied, Checkable, CheckedIn};
+ghost use Rattle.checking.specs.Checking.{Joined, Factors, Multiplied, Checkable, CheckedIn};
 
 // Whether the two normal forms are equal, and their lengths.
 pub struct Both {
@@ -27,27 +27,25 @@ fn join(first: &[u8], second: &[u8], row: &mut [u8]) -> usize
     append(row, middle, second)
 }
 
-// Writes the normal form of first · second into the area and gives its length. The three rows are worked in; what they
-// hold before does not matter.
+// Writes the normal form of first · second into the area and gives its length. The row is worked in; what it holds
+// before does not matter.
 fn product_in(
     first: &[u8],
     second: &[u8],
     conflicts: &[[u16; 24]; 24],
     row: &mut [u8],
-    under: &mut [u16],
-    link: &mut [u16],
     area: &mut [u8],
 ) -> usize
     requires { ⌜ ((c : List ℕ) × Factors c (now conflicts) (now first) (now second) (now area)
-        × Rows (length (now first) + length (now second)) (now row) (now under) (now link)) ⌝ }
+        × (length (now first) + length (now second) ≤ length (now row))) ⌝ }
     ensures { λ r. ⌜ Multiplied (now (conflicts .entry)) (now (first .entry)) (now (second .entry))
         (now (area .entry)) (now (area .exit)) r ⌝ }
 {
     let end = join(first, second, row);
-    normal_form(&row[..end], conflicts, under, link, area)
+    form(&row[..end], conflicts, area)
 }
 
-// As `product_in`, with rows of its own: short ones where they suffice, so that a short product clears little.
+// As `product_in`, with a row of its own: a short one where it suffices, so that a short product clears little.
 fn product(first: &[u8], second: &[u8], conflicts: &[[u16; 24]; 24], area: &mut [u8]) -> usize
     requires { ⌜ ((c : List ℕ) × Factors c (now conflicts) (now first) (now second) (now area)) ⌝ }
     ensures { λ r. ⌜ Multiplied (now (conflicts .entry)) (now (first .entry)) (now (second .entry))
@@ -55,30 +53,10 @@ fn product(first: &[u8], second: &[u8], conflicts: &[[u16; 24]; 24], area: &mut 
 {
     if first.len() + second.len() <= 2048 {
         let mut row = row::short_row();
-        let mut under = row::short_links();
-        let mut link = row::short_links();
-        return product_in(
-            first,
-            second,
-            conflicts,
-            &mut row,
-            &mut under,
-            &mut link,
-            area,
-        );
+        return product_in(first, second, conflicts, &mut row, area);
     }
     let mut row = row::blank_row();
-    let mut under = row::blank_links();
-    let mut link = row::blank_links();
-    product_in(
-        first,
-        second,
-        conflicts,
-        &mut row,
-        &mut under,
-        &mut link,
-        area,
-    )
+    product_in(first, second, conflicts, &mut row, area)
 }
 
 // Whether two words are the same. The bits in which bytes differ are gathered, with no way out of the loop, so that

@@ -1,0 +1,41 @@
+-- `forming::form_middle` meets its contract: the links are as many as the word may have letters. Assumes nothing.
+use borrow.Author.Needs.{needs}
+use Rattle.forming.specs.Forming.{formable-room}
+use Rattle.forming.proofs.form_middle.Statement.{statement}
+use Rattle.forming.proofs.form_middle.Tie as tie
+
+middle-links-requires : tie.Need-middle-links-requires
+middle-links-requires c κs = search needs
+
+middle-links-requires-2 : tie.Need-middle-links-requires-2
+middle-links-requires-2 c κs = search needs
+
+slice-aggregate-normal-form : tie.Need-slice-aggregate-normal-form
+slice-aggregate-normal-form c = search needs
+
+slice-aggregate-normal-form-2 : tie.Need-slice-aggregate-normal-form-2
+slice-aggregate-normal-form-2 c = search needs
+
+normal-form-requires : tie.Need-normal-form-requires
+normal-form-requires c κs =
+    let l = c .before .before .before in
+    let (k, f) = l .before .before .before .before .pre in
+    (k, f .given, formable-room f (l .before .middle-links .ensures) (l .middle-links2 .ensures))
+
+same-length : tie.Need-same-length
+same-length c = search needs
+
+returns : tie.Need-returns
+returns c = search needs
+
+pub form-middle-spec : {M : Type 1} → statement M
+form-middle-spec =
+    tie.close
+    (tie.spec
+    middle-links-requires
+    middle-links-requires-2
+    slice-aggregate-normal-form
+    slice-aggregate-normal-form-2
+    normal-form-requires
+    same-length
+    returns)
