@@ -34,12 +34,10 @@ pub record Labelled (c : List ℕ) (conflicts : List (List ℕ)) (x labels : Lis
 -- the apex is one of the core's, the rounds are as many as commands, and there is room for the ring and, from place
 -- `at` on, for the letters that so many rounds cycle
 pub record Ringable (c : List ℕ) (conflicts : List (List ℕ)) (x labels : List ℕ) (apex rounds : ℕ)
-    (under link ring out : List ℕ) (at : ℕ) : Type 0 where
+    (ring out : List ℕ) (at : ℕ) : Type 0 where
   pub core : Labelled c conflicts x labels
   pub apical : apex ∈ apexes (alphabet c) x
   pub enough : rounds ≡ commands c
-  pub unders : length x ≤ length under
-  pub links : length x ≤ length link
   pub fits : length x ≤ length ring
   pub room : at + rounds * length (part (alphabet c) apex x) ≤ length out
 

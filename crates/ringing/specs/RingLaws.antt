@@ -38,7 +38,8 @@ use Rattle.settle.specs.Settling.{Settleable, Ended, Answered}
 use Rattle.settle.specs.declared.Settled.{Settled}
 use Rattle.settle.specs.declared.Settled.the-variants.{Done, Unsettled}
 use Rattle.reduction.specs.Reducing.{Given}
-use Rattle.longform.specs.Form.{Room, Written}
+use Rattle.longform.specs.Form.{Written}
+use Rattle.forming.specs.Forming.{Formable}
 use Rattle.ringing.specs.PartLaws.{part-round, turns-all}
 use Rattle.ringing.specs.Ring.{Cyclic, Ringable, Rung}
 
@@ -140,8 +141,8 @@ module _ {c : List ℕ} {conflicts : List (List ℕ)} {x : List ℕ} (k : Cyclic
 
 -- the steps of finding a ring
 
-module _ {c : List ℕ} {conflicts : List (List ℕ)} {x labels : List ℕ} {apex rounds : ℕ} {under link ring out : List ℕ}
-    {at : ℕ} (k : Ringable c conflicts x labels apex rounds under link ring out at) where
+module _ {c : List ℕ} {conflicts : List (List ℕ)} {x labels : List ℕ} {apex rounds : ℕ} {ring out : List ℕ}
+    {at : ℕ} (k : Ringable c conflicts x labels apex rounds ring out at) where
   abbrev pub whole : List ℕ
   whole = part (alphabet c) apex x
 
@@ -187,15 +188,13 @@ module _ {c : List ℕ} {conflicts : List (List ℕ)} {x labels : List ℕ} {ape
         pub ended-given : Given c conflicts z
         ended-given = rw (f ∙ h .reached) (settled-given (k .core .cyclic) apex rounds (h .still))
 
-        pub ended-room : {under′ link′ ring′ : List ℕ} → length under′ ≡ length under → length link′ ≡ length link
-            → length ring′ ≡ length ring → Room z under′ link′ ring′
-        ended-room {under′} {link′} {ring′} u l r =
+        pub ended-formable : {ring′ : List ℕ} → length ring′ ≡ length ring → Formable 50176 c conflicts z ring′
+        ended-formable r =
             let n : length z ≡ length whole = ap length f ∙ ended-length ∙ ap length d in
-            let s = part-short (k .core .cyclic) apex in
             record {
-              unders = omega (arith, k .unders);
-              links = omega (arith, k .links);
-              fits = omega (arith, k .fits, letters-length z);
+              given = ended-given;
+              short = ended-given .short;
+              fits = omega (arith, k .fits, letters-length z, part-short (k .core .cyclic) apex);
             }
 
         pub ended-rung : {before after : List ℕ} {r : ℕ} → Written c z before after r

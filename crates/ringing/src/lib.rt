@@ -1,6 +1,6 @@
 // The ring of one part of a core: the part is settled on its apex, and the settled word put in normal form.
 
-use longform::normal_form;
+use forming::form;
 use parts::part;
 use settle::Settled;
 use settle::settle;
@@ -36,17 +36,15 @@ pub fn ring_of(
     apex: u8,
     rounds: usize,
     conflicts: &[[u16; 24]; 24],
-    under: &mut [u16],
-    link: &mut [u16],
     ring: &mut [u8],
     cycled: &mut [u8],
     at: usize,
 ) -> Ringed
-    requires { ⌜ ((c : List ℕ) × Ringable c (now conflicts) (now core) (now labels) apex rounds (now under) (now link)
-        (now ring) (now cycled) at) ⌝ }
+    requires { ⌜ ((c : List ℕ) × Ringable c (now conflicts) (now core) (now labels) apex rounds (now ring)
+        (now cycled) at) ⌝ }
     ensures { λ r. ⌜ ((c : List ℕ)
         → Ringable c (now (conflicts .entry)) (now (core .entry)) (now (labels .entry)) apex rounds
-        (now (under .entry)) (now (link .entry)) (now (ring .entry)) (now (cycled .entry)) at
+        (now (ring .entry)) (now (cycled .entry)) at
         → Rings c (now (core .entry)) apex rounds (now (ring .exit)) (now (cycled .entry)) (now (cycled .exit)) at r)
         ⌝ }
 {
@@ -67,7 +65,7 @@ pub fn ring_of(
     let Settled::Done(end) = settled else {
         return Ringed::Unsettled;
     };
-    let l = normal_form(&word[..n], conflicts, under, link, ring);
+    let l = form(&word[..n], conflicts, ring);
     Ringed::Of(Ends {
         ring: l,
         cycled: end,

@@ -12,14 +12,14 @@ use Rattle.settle.specs.Settling.{Settleable, Ended}
 use Rattle.ringing.specs.Ring.{Ringable}
 use Rattle.ringing.specs.RingLaws.{copied-fits, copied-take, copied-count, cyclic-lettered, ringable-settle}
 use Rattle.ringing.specs.RingLaws.{ringable-unsettled, answered-done, answered-unsettled, ended-take, ended-fits}
-use Rattle.ringing.specs.RingLaws.{ended-count, ended-given, ended-room, ended-rung}
+use Rattle.ringing.specs.RingLaws.{ended-count, ended-given, ended-formable, ended-rung}
 use Rattle.ringing.proofs.ring_of.Statement.{statement}
 use Rattle.ringing.proofs.ring_of.Tie as tie
 
 -- places on the way
 
 abbrev start : tie.After-part → tie.Start
-start p = p .before .before .before .before .before .before .before .before .before .before
+start p = p .before .before .before .before .before .before .before .before
 
 abbrev copy : tie.After-settle → tie.After-part
 copy t = t .before .before .before .before .before .before
@@ -31,8 +31,8 @@ settling q = q .before .before .before .before .before .before .before
 abbrev Asked : tie.After-part → List ℕ → Type 0
 Asked p k =
     let s = start p .args in
-    Ringable k (s .conflicts .now) (s .core .now) (s .labels .now) (s .apex) (s .rounds) (s .under .now) (s .link .now)
-    (s .ring .now) (s .cycled .now) (s .at)
+    Ringable k (s .conflicts .now) (s .core .now) (s .labels .now) (s .apex) (s .rounds) (s .ring .now)
+    (s .cycled .now) (s .at)
 
 copied : (p : tie.After-part) (k : List ℕ) → Asked p k
     → (let s = start p .args in Copied (Part.part (alphabet k) (s .apex) (s .core .now))
@@ -70,7 +70,7 @@ slice-aggregate-part c = search needs
 
 part-requires : tie.Need-part-requires
 part-requires c κs =
-    let h = c .before .before .before .before .before .before .before .before .before .pre .1 .core .cyclic in
+    let h = c .before .before .before .before .before .before .before .pre .1 .core .cyclic in
     (cyclic-lettered h, omega (arith, h .short, c .before .before .before .sheet .ensures))
 
 array-borrow-prefix-word : tie.Need-array-borrow-prefix-word
@@ -122,23 +122,22 @@ array-share-prefix-word c =
     let d = copied p k h in
     ended-fits h (copied-take d) (ended q k h) _ _ (copied-count d)
 
-slice-aggregate-normal-form : tie.Need-slice-aggregate-normal-form
-slice-aggregate-normal-form c =
+slice-aggregate-form : tie.Need-slice-aggregate-form
+slice-aggregate-form c =
     let q = c .before .before in
     let p = copy (settling q) in
     let (k, h) = start p .pre in
     let d = copied p k h in
     ended-count h (copied-take d) (ended q k h) _ _ (copied-count d)
 
-normal-form-requires : tie.Need-normal-form-requires
-normal-form-requires c κs =
-    let q = c .before .before .before .before .before in
+form-requires : tie.Need-form-requires
+form-requires c κs =
+    let q = c .before .before .before in
     let p = copy (settling q) in
     let (k, h) = start p .pre in
     let d = copied-take (copied p k h) in
     let o = ended q k h in
-    let f = ended-take h d o _ _ (copied-count (copied p k h)) in
-    (k, ended-given h d o f, ended-room h d o f refl refl refl)
+    (k, ended-formable h d o (ended-take h d o _ _ (copied-count (copied p k h))) refl)
 
 same-length-2 : tie.Need-same-length-2
 same-length-2 c = search needs
@@ -146,21 +145,15 @@ same-length-2 c = search needs
 same-length-3 : tie.Need-same-length-3
 same-length-3 c = search needs
 
-same-length-4 : tie.Need-same-length-4
-same-length-4 c = search needs
-
-same-length-5 : tie.Need-same-length-5
-same-length-5 c = search needs
-
 returns-2 : tie.Need-returns-2
 returns-2 c =
-    let q = c .before .before .before .before .before .before .before .before .before .before .before .before in
+    let q = c .before .before .before .before .before .before in
     let p = copy (settling q) in
     λ k h.
     let d = copied-take (copied p k h) in
     let o = ended q k h in
     let f = ended-take h d o _ _ (copied-count (copied p k h)) in
-    ended-rung h d o f (c .before .before .before .before .before .before .normal-form .ensures k (ended-given h d o f))
+    ended-rung h d o f (c .before .before .form .ensures k (ended-given h d o f))
 
 pub ring-of-spec : {M : Type 1} → statement M
 ring-of-spec =
@@ -181,10 +174,8 @@ ring-of-spec =
     same-length
     returns
     array-share-prefix-word
-    slice-aggregate-normal-form
-    normal-form-requires
+    slice-aggregate-form
+    form-requires
     same-length-2
     same-length-3
-    same-length-4
-    same-length-5
     returns-2)
