@@ -1,10 +1,11 @@
-// Long words built in a row: a word appended to what stands in it, as it is or undone; and rows to work in.
+// Long words built in a row: a word appended to what stands in it, as it is or undone, and a part of the row undone where
+// it stands; and rows to work in.
 
 use plan::undo;
 ghost use Prim.Native.Nat.{_+_, _≤_};
 ghost use mathlib.Core.Path.{_≡_};
 ghost use lib.ListN.{length};
-ghost use Rattle.row.specs.Row.{Appended};
+ghost use Rattle.row.specs.Row.{Appended, Undone};
 ghost use Rattle.plan.specs.Letters.{undoneBefore};
 ghost use mathlib.Core.List.{[]};
 
@@ -36,30 +37,44 @@ pub fn append_undone(row: &mut [u8], at: usize, word: &[u8]) -> usize
     at + n
 }
 
-// A row for the longest words.
-pub fn blank_row() -> [u8; 50176]
-    ensures { λ r. ⌜ 50176 ≡ length r ⌝ }
+// Undoes the row's bytes from one place up to another, where they stand: they are turned round and each is undone.
+pub fn undo_between(row: &mut [u8], from: usize, to: usize)
+    requires { ⌜ (from ≤ to) × (to ≤ length (now row)) ⌝ }
+    ensures { λ r. ⌜ Undone (now (row .entry)) from to (now (row .exit)) ⌝ }
 {
-    [0; 50176]
+    let mut i = from;
+    let mut j = to;
+    while i < j {
+        j -= 1;
+        let a = undo(row[i]);
+        row[i] = undo(row[j]);
+        row[j] = a;
+        i += 1;
+    }
 }
 
-// A row of numbers, one for each place of such a row.
-pub fn blank_links() -> [u16; 50176]
-    ensures { λ r. ⌜ 50176 ≡ length r ⌝ }
-{
-    [0; 50176]
-}
+// Rows to work in, for words of at most so many bytes.
 
-// A row for short words.
 pub fn short_row() -> [u8; 2048]
     ensures { λ r. ⌜ 2048 ≡ length r ⌝ }
 {
     [0; 2048]
 }
 
-// A row of numbers, one for each place of such a row.
-pub fn short_links() -> [u16; 2048]
-    ensures { λ r. ⌜ 2048 ≡ length r ⌝ }
+pub fn middle_row() -> [u8; 8192]
+    ensures { λ r. ⌜ 8192 ≡ length r ⌝ }
 {
-    [0; 2048]
+    [0; 8192]
+}
+
+pub fn wide_row() -> [u8; 24576]
+    ensures { λ r. ⌜ 24576 ≡ length r ⌝ }
+{
+    [0; 24576]
+}
+
+pub fn blank_row() -> [u8; 50176]
+    ensures { λ r. ⌜ 50176 ≡ length r ⌝ }
+{
+    [0; 50176]
 }
