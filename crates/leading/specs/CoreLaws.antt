@@ -23,8 +23,8 @@ not-false false e = sym e
 pub tells-same : {P : Type 0} {r : Bool} → (r ≡ true) ↔ P → not r ≡ false → P
 tells-same {P} {r} t e = t .0 (not-false r e)
 
-module _ {c : List ℕ} {conflicts : List (List ℕ)} {x y : List ℕ} {rounds : ℕ} {under link cycled row : List ℕ} {at : ℕ}
-    (h : Coreable c conflicts x y rounds under link cycled row at) where
+module _ {c : List ℕ} {conflicts : List (List ℕ)} {x y : List ℕ} {rounds : ℕ} {row : List ℕ} {at : ℕ}
+    (h : Coreable c conflicts x y rounds row at) where
   pub cores-apart : {r : Bool} → (r ≡ true) ↔ (commands (alphabet c) x ≡ commands (alphabet c) y) → not r ≡ true
       → cores-joined? (alphabet c) x y ≡ false
   unfolding cores-joined?
@@ -40,7 +40,7 @@ module _ {c : List ℕ} {conflicts : List (List ℕ)} {x y : List ℕ} {rounds :
   module _ (same : commands (alphabet c) x ≡ commands (alphabet c) y) where
     pub cores-leadable : {fs names : List ℕ} → Flags (commands (alphabet c) x) fs
         → LabelsOf (labels (alphabet c) (commands (alphabet c) x)) names
-        → Leadable c conflicts x y fs names rounds under link cycled
+        → Leadable c conflicts x y fs names rounds
     unfolding label
     cores-leadable {fs} {names} f l = record {
       two = record {
@@ -53,7 +53,6 @@ module _ {c : List ℕ} {conflicts : List (List ℕ)} {x y : List ℕ} {rounds :
       };
       flags = f;
       enough = h .enough;
-      sheets = h .sheets;
     }
 
     decided : cores-joined? (alphabet c) x y ≡ parts-joined? (alphabet c) (apexes (alphabet c) x) x y

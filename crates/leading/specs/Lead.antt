@@ -20,6 +20,11 @@ use Rattle.ringing.specs.Ring.{Cyclic, Labelled}
 use Rattle.leading.specs.declared.Outcome.{Outcome}
 use Rattle.leading.specs.declared.Outcome.the-variants.{Joined, Apart, Unsettled}
 
+-- the letters cycled stand between two places, and behind them the row has room for the ring
+pub record Turnable (ring row : List ℕ) (from at : ℕ) : Type 0 where
+  pub ordered : from ≤ at
+  pub room : at + length ring ≤ length row
+
 -- the ring is a rotation of the other, and behind the first `at` bytes now stand, up to `end`, the ring up to the place
 -- at which they agree and the letters cycled, undone
 pub record Turned (c ring other cycled before : List ℕ) (at : ℕ) (after : List ℕ) (end : ℕ) : Type 0 where
@@ -39,20 +44,14 @@ pub record Two (c : List ℕ) (conflicts : List (List ℕ)) (x y labels : List �
   pub second : Labelled c conflicts y labels
   pub same : commands (alphabet c) x ≡ commands (alphabet c) y
 
--- rows to work in, for words of the length of x and y and for the letters that settling y cycles
-pub record Sheets (x y : List ℕ) (rounds : ℕ) (under link cycled : List ℕ) : Type 0 where
-  pub long : 1024 ≤ length under
-  pub wide : 1024 ≤ length link
-  pub aside : rounds * length y ≤ length cycled
-
--- one part: the apex is one of x, the rounds are as many as commands, and the row has room behind place `at`
+-- one part: the apex is one of x, the rounds are as many as commands, and the row has room behind place `at` for what so
+-- many rounds cycle of both
 pub record Partable (c : List ℕ) (conflicts : List (List ℕ)) (x y labels : List ℕ) (apex rounds : ℕ)
-    (under link cycled row : List ℕ) (at : ℕ) : Type 0 where
+    (row : List ℕ) (at : ℕ) : Type 0 where
   pub two : Two c conflicts x y labels
   pub apical : apex ∈ apexes (alphabet c) x
   pub enough : rounds ≡ Catalogue.commands c
-  pub sheets : Sheets x y rounds under link cycled
-  pub room : at + 2 * rounds * length (part (alphabet c) apex x) ≤ length row
+  pub room : at + rounds * (length (part (alphabet c) apex x) + length (part (alphabet c) apex y)) ≤ length row
 
 -- the parts with these apexes are joined, and behind the first `at` bytes now stand their lead-ins, up to `end`
 pub record Led (c x y ms before : List ℕ) (at : ℕ) (after : List ℕ) (end : ℕ) : Type 0 where
@@ -72,27 +71,30 @@ apexAt fs labels k = chosen-step (eqb (getD fs k 0) 1 && eqb (getD labels k 0) (
 
 -- several parts: the flags tell of the commands that occur, and the rounds are as many as commands
 pub record Leadable (c : List ℕ) (conflicts : List (List ℕ)) (x y fs labels : List ℕ) (rounds : ℕ)
-    (under link cycled : List ℕ) : Type 0 where
+    : Type 0 where
   pub two : Two c conflicts x y labels
   pub flags : Flags (commands (alphabet c) x) fs
   pub enough : rounds ≡ Catalogue.commands c
-  pub sheets : Sheets x y rounds under link cycled
+
+-- the letters of x in the parts with these apexes
+abbrev pub partsOf : List ℕ → List ℕ → List ℕ → List ℕ
+partsOf c ms x = shares (alphabet c) (label (alphabet c) x) ms x
 
 -- one command: the row has room behind place `at` for its part, if it is an apex
 pub record Placeable (c : List ℕ) (conflicts : List (List ℕ)) (x y fs labels : List ℕ) (k rounds : ℕ)
-    (under link cycled row : List ℕ) (at : ℕ) : Type 0 where
-  pub leadable : Leadable c conflicts x y fs labels rounds under link cycled
-  pub room : at + 2 * rounds * length (shares (alphabet c) (label (alphabet c) x) (apexAt fs labels k) x) ≤ length row
+    (row : List ℕ) (at : ℕ) : Type 0 where
+  pub leadable : Leadable c conflicts x y fs labels rounds
+  pub room : at + rounds * (length (partsOf c (apexAt fs labels k) x) + length (partsOf c (apexAt fs labels k) y))
+      ≤ length row
 
 -- two whole cores: the rounds are as many as commands, and the row has room behind place `at` for the lead-ins of all
 -- parts
-pub record Coreable (c : List ℕ) (conflicts : List (List ℕ)) (x y : List ℕ) (rounds : ℕ)
-    (under link cycled row : List ℕ) (at : ℕ) : Type 0 where
+pub record Coreable (c : List ℕ) (conflicts : List (List ℕ)) (x y : List ℕ) (rounds : ℕ) (row : List ℕ)
+    (at : ℕ) : Type 0 where
   pub first : Cyclic c conflicts x
   pub second : Cyclic c conflicts y
   pub enough : rounds ≡ Catalogue.commands c
-  pub sheets : Sheets x y rounds under link cycled
-  pub room : at + 2 * rounds * length x ≤ length row
+  pub room : at + rounds * (length x + length y) ≤ length row
 
 -- the cores are joined, and behind the first `at` bytes now stand the lead-ins of their parts, up to `end`
 pub record CoresLed (c x y before : List ℕ) (at : ℕ) (after : List ℕ) (end : ℕ) : Type 0 where

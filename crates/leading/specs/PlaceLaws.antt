@@ -1,7 +1,7 @@
 -- One command: where it occurs and is its own label it is an apex, and its part can be joined.
 use Prim.Native.Nat.{ℕ, _+_, _*_, _≤_, _<_}
 use native.Mathlib.Omega.{arith}
-use mathlib.Core.Path.{_≡_, sym, _∙_, ap, subst}
+use mathlib.Core.Path.{_≡_, sym, _∙_, ap, subst, subst₂}
 use mathlib.Core.List.{List, [], _∷_, append-nil}
 use lib.ListN.{length, getD}
 use lib.Dec.{eqb}
@@ -12,7 +12,7 @@ use Rattle.conjugacy.specs.Part.{commands, label, apexes, part, share}
 use Rattle.conjugacy.specs.PartLaws.{shares, part-share}
 use Rattle.parts.specs.Flags.{Flag, set, clear}
 use Rattle.leading.specs.declared.Outcome.{Outcome}
-use Rattle.leading.specs.Lead.{Partable, Led, Leads, apexAt, Placeable}
+use Rattle.leading.specs.Lead.{Partable, Led, Leads, apexAt, partsOf, Placeable}
 use Rattle.leading.specs.ApexLaws.{apex-absent, apex-other, apex-own}
 use Rattle.leading.specs.SofarLaws.{led-nothing}
 
@@ -21,8 +21,7 @@ flag-set (set p) e = p
 flag-set (clear q) e = absurd (omega arith)
 
 module _ {c : List ℕ} {conflicts : List (List ℕ)} {x y fs labels : List ℕ} {k rounds : ℕ}
-    {under link cycled row : List ℕ} {at : ℕ}
-    (h : Placeable c conflicts x y fs labels k rounds under link cycled row at) where
+    {row : List ℕ} {at : ℕ} (h : Placeable c conflicts x y fs labels k rounds row at) where
   -- a command that does not occur, or has another label, adds nothing
   pub place-absent : (getD fs k 0 ≡ 1 → ⊥) → Led c x y (apexAt fs labels k) row at row at
   place-absent n =
@@ -42,22 +41,20 @@ module _ {c : List ℕ} {conflicts : List (List ℕ)} {x y fs labels : List ℕ}
         (chosen-in (λ j. eqb (label (alphabet c) x j) j) (commands (alphabet c) x)
         (flag-set (h .leadable .flags .each k l) e) (eq-eqb (label (alphabet c) x (k + 1)) (k + 1) own))
 
-    part-length : length (shares (alphabet c) (label (alphabet c) x) (apexAt fs labels k) x)
-        ≡ length (part (alphabet c) (getD labels k 0) x)
+    part-length : (z : List ℕ)
+        → length (partsOf c (apexAt fs labels k) z) ≡ length (part (alphabet c) (getD labels k 0) z)
     unfolding shares
-    part-length =
+    part-length z =
         let m = getD labels k 0 in
-        ap (λ (ms : List ℕ). length (shares (alphabet c) (label (alphabet c) x) ms x))
-        (apex-own fs labels k e f ∙ ap (λ j. j ∷ []) (sym f))
-        ∙ ap length (append-nil (share (alphabet c) (label (alphabet c) x) m x) ∙ sym (part-share (alphabet c) m x))
+        ap (λ (ms : List ℕ). length (partsOf c ms z)) (apex-own fs labels k e f ∙ ap (λ j. j ∷ []) (sym f))
+        ∙ ap length (append-nil (share (alphabet c) (label (alphabet c) z) m z) ∙ sym (part-share (alphabet c) m z))
 
-    pub place-partable : Partable c conflicts x y labels (getD labels k 0) rounds under link cycled row at
+    pub place-partable : Partable c conflicts x y labels (getD labels k 0) rounds row at
     place-partable = record {
       two = h .leadable .two;
       apical = apical;
       enough = h .leadable .enough;
-      sheets = h .leadable .sheets;
-      room = subst (λ n. at + 2 * rounds * n ≤ length row) part-length (h .room);
+      room = subst₂ (λ n m. at + rounds * (n + m) ≤ length row) (part-length x) (part-length y) (h .room);
     }
 
     pub place-leads : (after : List ℕ) (o : Outcome) → Leads c x y (getD labels k 0 ∷ []) row at after o

@@ -1,10 +1,11 @@
 -- The loop over the commands: the lead-ins of the apexes passed stand in the row, which has room for the next.
 use Prim.Native.Nat.{ℕ, zero, suc, _+_, _*_, _≤_, _<_}
 use native.Mathlib.Omega.{arith}
-use native.Mathlib.Nat.{mul-le-mul-left, mul-add}
+use native.Mathlib.Nat.{mul-le-mul-left, mul-add, add-mul}
 use mathlib.Core.Path.{_≡_, refl, sym, _∙_, ap, subst}
-use mathlib.Core.Bool.{false}
-use mathlib.Core.List.{List, [], _++_, append-assoc, append-nil, Memᴰ·append-left}
+use mathlib.Core.Bool.{true, false}
+use mathlib.Core.List.{List, [], _∷_, _++_, append-assoc, append-nil, Memᴰ·append-left}
+use mathlib.Core.List.{List·Memᴰ·head, List·Memᴰ·tail}
 use lib.ListN.{length, take, length-append}
 use Rattle.words.specs.All.{all-map}
 use Rattle.words.specs.TraceLaws.{~-length}
@@ -13,29 +14,17 @@ use Rattle.plan.specs.CommandLaws.{command-range}
 use Rattle.plan.specs.Letters.{alphabet}
 use Rattle.conjugacy.specs.AscendingLaws.{_∈_, Within}
 use Rattle.conjugacy.specs.CommandLaws.{Occurs, all-occurs}
-use Rattle.conjugacy.specs.Part.{commands, label, apexes}
-use Rattle.conjugacy.specs.PartLaws.{shares, apexes-~}
-use Rattle.conjugacy.specs.Decision.{parts-joined?}
+use Rattle.conjugacy.specs.Part.{commands, label, apexes, part, share}
+use Rattle.conjugacy.specs.PartLaws.{shares, part-share, apexes-same, apexes-~}
+use Rattle.conjugacy.specs.Decision.{part-ring, rotated?, parts-joined?}
 use Rattle.conjugacy.specs.LeadIn.{parts-lead}
+use Rattle.conjugacy.specs.LeadInLaws.{both, apical-part, parts-length}
 use Rattle.conjugacy.specs.JoinLaws.{parts-lead-length}
 use Rattle.leading.specs.declared.Outcome.{Outcome}
 use Rattle.leading.specs.declared.Outcome.the-variants.{Joined, Apart, Unsettled}
-use Rattle.leading.specs.Lead.{Led, Leads, apexAt, apexesFrom, Leadable, Placeable, Stops, Sofar}
+use Rattle.leading.specs.Lead.{Led, Leads, apexAt, partsOf, apexesFrom, Leadable, Placeable, Stops}
+use Rattle.leading.specs.Lead.{Sofar}
 use Rattle.leading.specs.ApexLaws.{shares-append, joined-append, lead-append, apexes-from}
-
--- four rows are as long as they were
-pub record Kept (under₀ link₀ cycled₀ row₀ under link cycled row : List ℕ) : Type 0 where
-  pub unders : length under ≡ length under₀
-  pub links : length link ≡ length link₀
-  pub aside : length cycled ≡ length cycled₀
-  pub rows : length row ≡ length row₀
-
-pub kept-on : {under₀ link₀ cycled₀ row₀ under link cycled row under′ link′ cycled′ row′ : List ℕ}
-    → Kept under₀ link₀ cycled₀ row₀ under link cycled row → length under′ ≡ length under → length link′ ≡ length link
-    → length cycled′ ≡ length cycled → length row′ ≡ length row
-    → Kept under₀ link₀ cycled₀ row₀ under′ link′ cycled′ row′
-kept-on k u l c r =
-    record { unders = u ∙ k .unders; links = l ∙ k .links; aside = c ∙ k .aside; rows = r ∙ k .rows }
 
 -- no lead-in yet
 pub led-nothing : (c x y row : List ℕ) (at : ℕ) → Led c x y [] row at row at
@@ -60,11 +49,49 @@ led-append {c} {x} {y} {before} {mid} {after} {at} {end} {last} ms ns a b =
       ends = omega (arith, a .ends, b .ends, ap length e, length-append u v);
     }
 
-more-room : (n i j s at r : ℕ) → i ≤ 2 * n * j → at + 2 * n * (j + s) ≤ r → at + i + 2 * n * s ≤ r
-more-room n i j s at r h k = omega (arith, mul-add (2 * n) j s)
+-- the letters of the parts with these apexes
 
-module _ {c : List ℕ} {conflicts : List (List ℕ)} {x y fs labels : List ℕ} {rounds : ℕ} {under link cycled : List ℕ}
-    (h : Leadable c conflicts x y fs labels rounds under link cycled) where
+parts-of-append : (c x ms ns : List ℕ)
+    → length (partsOf c (ms ++ ns) x) ≡ length (partsOf c ms x) + length (partsOf c ns x)
+parts-of-append c x ms ns =
+    ap length (shares-append (alphabet c) (label (alphabet c) x) ms ns x)
+    ∙ length-append (partsOf c ms x) (partsOf c ns x)
+
+parts-of-all : (c x : List ℕ) → length (partsOf c (apexes (alphabet c) x) x) ≡ length x
+parts-of-all c x = sym (~-length (alphabet c) (apexes-~ (alphabet c) x))
+
+-- joined parts have as many letters in one core as in the other
+parts-of-joined : (c x y : List ℕ) → commands (alphabet c) x ≡ commands (alphabet c) y → (ms : List ℕ)
+    → Within ms (apexes (alphabet c) x) → parts-joined? (alphabet c) ms x y ≡ true
+    → length (partsOf c ms x) ≡ length (partsOf c ms y)
+unfolding shares parts-joined? part-ring
+parts-of-joined c x y same [] g t = refl
+parts-of-joined c x y same (m ∷ ms) g t =
+    let Γ = alphabet c in
+    let (r, s) = both (rotated? Γ (part-ring Γ m x) (part-ring Γ m y)) (parts-joined? Γ ms x y) t in
+    let i = g m (List·Memᴰ·head refl) in
+    let j = subst (λ (ks : List ℕ). m ∈ ks) (apexes-same Γ x y same) i in
+    let e : length (part Γ m x) ≡ length (part Γ m y) = parts-length Γ (apical-part Γ x i) (apical-part Γ y j) r in
+    omega (
+      arith,
+      e,
+      ap length (part-share Γ m x),
+      ap length (part-share Γ m y),
+      parts-of-joined c x y same ms (λ k o. g k (List·Memᴰ·tail o)) s,
+      length-append (share Γ (label Γ x) m x) (partsOf c ms x),
+      length-append (share Γ (label Γ y) m y) (partsOf c ms y),
+    )
+
+more-room : (n i j s at r : ℕ) → i ≤ n * j → at + n * (j + s) ≤ r → at + i + n * s ≤ r
+more-room n i j s at r h k = omega (arith, mul-add n j s)
+
+doubled : (n i l m : ℕ) → l ≡ m → i ≤ 2 * n * l → i ≤ n * (l + m)
+doubled n i l m e h =
+    let t : 2 * n ≡ n + n = omega arith in
+    omega (arith, ap (λ j. j * l) t, add-mul n n l, mul-add n l m, ap (λ j. n * j) e)
+
+module _ {c : List ℕ} {conflicts : List (List ℕ)} {x y fs labels : List ℕ} {rounds : ℕ}
+    (h : Leadable c conflicts x y fs labels rounds) where
   pub sofar-start : (row : List ℕ) (at : ℕ) → Sofar c x y fs labels row at row at 0
   sofar-start row at = record {
     done = [];
@@ -80,17 +107,14 @@ module _ {c : List ℕ} {conflicts : List (List ℕ)} {x y fs labels : List ℕ}
       (all-map (λ b t. command-range (Catalogue.commands c) b (omega (arith, h .two .first .cyclic .few)) t) x
       (h .two .first .cyclic .letters)))
 
-  abbrev part-of : List ℕ → List ℕ
-  part-of ms = shares (alphabet c) (label (alphabet c) x) ms x
-
   -- the lead-ins of some of the apexes are short
   led-short : {before after : List ℕ} {at end : ℕ} (ms : List ℕ) → Within ms (apexes (alphabet c) x)
-      → Led c x y ms before at after end → length (parts-lead (alphabet c) ms x y) ≤ 2 * rounds * length (part-of ms)
-  led-short ms w l = omega (arith, parts-lead-length (alphabet c) x y (h .two .same) rounds range ms w (l .joined))
-
-  part-of-length : (ms ns : List ℕ) → length (part-of (ms ++ ns)) ≡ length (part-of ms) + length (part-of ns)
-  part-of-length ms ns =
-      ap length (shares-append (alphabet c) (label (alphabet c) x) ms ns x) ∙ length-append (part-of ms) (part-of ns)
+      → Led c x y ms before at after end
+      → length (parts-lead (alphabet c) ms x y) ≤ rounds * (length (partsOf c ms x) + length (partsOf c ms y))
+  led-short ms w l =
+      let e = parts-lead-length (alphabet c) x y (h .two .same) rounds range ms w (l .joined) in
+      doubled rounds (length (parts-lead (alphabet c) ms x y)) (length (partsOf c ms x)) (length (partsOf c ms y))
+      (parts-of-joined c x y (h .two .same) ms w (l .joined)) (omega arith)
 
   module _ {before after : List ℕ} {at end k : ℕ} (s : Sofar c x y fs labels before at after end k) where
     abbrev rest : List ℕ
@@ -99,10 +123,15 @@ module _ {c : List ℕ} {conflicts : List (List ℕ)} {x y fs labels : List ℕ}
     within : Within (s .done) (apexes (alphabet c) x)
     within j i = subst (λ (ms : List ℕ). j ∈ ms) (s .all) (Memᴰ·append-left rest i)
 
-    all-length : length (part-of (s .done)) + length (part-of rest) ≡ length x
-    all-length =
-        sym (part-of-length (s .done) rest) ∙ ap (λ (ms : List ℕ). length (part-of ms)) (s .all)
-        ∙ sym (~-length (alphabet c) (apexes-~ (alphabet c) x))
+    -- both cores' letters: those of the parts passed, and those of the parts left
+    first-all : length (partsOf c (s .done) x) + length (partsOf c rest x) ≡ length x
+    first-all = sym (parts-of-append c x (s .done) rest) ∙ ap (λ (ms : List ℕ). length (partsOf c ms x)) (s .all)
+        ∙ parts-of-all c x
+
+    second-all : length (partsOf c (s .done) y) + length (partsOf c rest y) ≡ length y
+    second-all = sym (parts-of-append c y (s .done) rest)
+        ∙ ap (λ (ms : List ℕ). length (partsOf c ms y)) (s .all ∙ apexes-same (alphabet c) x y (h .two .same))
+        ∙ parts-of-all c y
 
     rest-next : k < 24 → (n : ℕ) × (n + (k + 1) ≡ 24) × (rest ≡ apexAt fs labels k ++ apexesFrom fs labels n (k + 1))
     unfolding apexesFrom
@@ -113,17 +142,22 @@ module _ {c : List ℕ} {conflicts : List (List ℕ)} {x y fs labels : List ℕ}
         go zero e = absurd (omega arith)
         go (suc n) e = (n, omega arith, refl)
 
-    pub sofar-room : k < 24 → at + 2 * rounds * length x ≤ length before → length after ≡ length before
-        → end + 2 * rounds * length (part-of (apexAt fs labels k)) ≤ length after
+    sofar-room : k < 24 → at + rounds * (length x + length y) ≤ length before → length after ≡ length before
+        → end + rounds * (length (partsOf c (apexAt fs labels k) x) + length (partsOf c (apexAt fs labels k) y))
+        ≤ length after
     sofar-room l r e =
         let (n, f, g) = rest-next l in
+        let a = apexAt fs labels k in
         let m = apexesFrom fs labels n (k + 1) in
-        let b = part-of-length (apexAt fs labels k) m in
-        let t : length (part-of (s .done)) + length (part-of (apexAt fs labels k)) ≤ length x =
-        omega (arith, all-length, ap (λ (ms : List ℕ). length (part-of ms)) g, b) in
-        let q = more-room rounds (length (parts-lead (alphabet c) (s .done) x y)) (length (part-of (s .done)))
-        (length (part-of (apexAt fs labels k))) at (length before) (led-short (s .done) within (s .led))
-        (omega (arith, mul-le-mul-left (2 * rounds) t)) in
+        let one : length (partsOf c (s .done) x) + length (partsOf c a x) ≤ length x =
+        omega (arith, first-all, ap (λ (ms : List ℕ). length (partsOf c ms x)) g, parts-of-append c x a m) in
+        let two : length (partsOf c (s .done) y) + length (partsOf c a y) ≤ length y =
+        omega (arith, second-all, ap (λ (ms : List ℕ). length (partsOf c ms y)) g, parts-of-append c y a m) in
+        let d = length (partsOf c (s .done) x) + length (partsOf c (s .done) y) in
+        let b = length (partsOf c a x) + length (partsOf c a y) in
+        let t : d + b ≤ length x + length y = omega arith in
+        let q = more-room rounds (length (parts-lead (alphabet c) (s .done) x y)) d b at (length before)
+        (led-short (s .done) within (s .led)) (omega (arith, mul-le-mul-left rounds t)) in
         omega (arith, q, s .led .ends)
 
     pub sofar-again : {after′ : List ℕ} {end′ : ℕ} → k < 24 → Led c x y (apexAt fs labels k) after end after′ end′
@@ -170,22 +204,9 @@ module _ {c : List ℕ} {conflicts : List (List ℕ)} {x y fs labels : List ℕ}
         go (suc m) e f = absurd (n (omega arith))
 
     -- so the next command can be tried
-    pub sofar-placeable : {under′ link′ cycled′ : List ℕ} → Kept under link cycled before under′ link′ cycled′ after
-        → k < 24 → at + 2 * rounds * length x ≤ length before
-        → Placeable c conflicts x y fs labels k rounds under′ link′ cycled′ after end
-    sofar-placeable d l r = record {
-      leadable = record {
-        two = h .two;
-        flags = h .flags;
-        enough = h .enough;
-        sheets = record {
-          long = omega (arith, h .sheets .long, d .unders);
-          wide = omega (arith, h .sheets .wide, d .links);
-          aside = omega (arith, h .sheets .aside, d .aside);
-        };
-      };
-      room = sofar-room l r (d .rows);
-    }
+    pub sofar-placeable : length after ≡ length before → k < 24
+        → at + rounds * (length x + length y) ≤ length before → Placeable c conflicts x y fs labels k rounds after end
+    sofar-placeable e l r = record { leadable = h; room = sofar-room l r e }
 
 -- what one step tells
 

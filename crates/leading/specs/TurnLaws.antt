@@ -6,21 +6,23 @@ use mathlib.Core.Bool.{Bool, true, false, _&&_}
 use mathlib.Core.List.{List, [], _∷_, _++_, append-assoc}
 use mathlib.Core.Option.{none, some}
 use lib.ListN.{length, take, length-append}
-use lib.Seq.{length-take-le}
+use lib.Seq.{length-take-le, take-take, take-at}
 use lib.Dec.{eqb}
 use Rattle.words.specs.Group.{undo}
+use Rattle.words.specs.GroupLaws.{undo-append, undo-undo}
 use Rattle.plan.specs.Letters.{alphabet, undoneBefore}
 use Rattle.conjugacy.specs.Rotation.{rotation}
-use Rattle.conjugacy.specs.RotationLaws.{rotation-some, rotation-rotated, rotated-length}
+use Rattle.conjugacy.specs.RotationLaws.{rotation-some, rotation-rotated}
 use Rattle.conjugacy.specs.Decision.{found?, rotated?}
 use Rattle.conjugacy.specs.LeadIn.{place}
 use Rattle.conjugacy.specs.LeadInLaws.{rotated-test}
 use Rattle.rotation.specs.declared.Start.{Start}
 use Rattle.rotation.specs.declared.Start.the-variants.{At, Nowhere}
 use Rattle.rotation.specs.Told.{toldStart}
-use Rattle.row.specs.Row.{Appended}
-use Rattle.row.specs.RowLaws.{appended-take}
-use Rattle.leading.specs.Lead.{Turned}
+use Rattle.row.specs.Row.{Appended, Undone}
+use Rattle.row.specs.RowLaws.{appended-take, appended-length, undone-length}
+use Rattle.row.specs.UndoLaws.{undone-take}
+use Rattle.leading.specs.Lead.{Turnable, Turned}
 
 and-false : (t : Bool) → (t && false) ≡ false
 and-false true = refl
@@ -49,21 +51,43 @@ module _ (c ring other : List ℕ) {i : ℕ} (f : rotation (alphabet c) ring oth
   pub start-count : i ≡ length (take i ring)
   start-count = sym (length-take-le i ring start-within)
 
-  pub start-same : length ring ≡ length other
-  start-same = rotated-length (alphabet c) (rotation-rotated (alphabet c) ring other f)
+  -- the row's end holds it, undone, behind the letters cycled
+  pub start-end : {row mid : List ℕ} {from at end : ℕ} → Turnable ring row from at
+      → Appended row at (undoneBefore (take i ring) []) mid end → end ≤ length row
+  start-end t a = omega (arith, t .room, a .ends, undone-length (take i ring) [], start-count, start-within)
 
-  pub turned : {cycled row mid after : List ℕ} {at end last : ℕ} → Appended row at (take i ring) mid end
-      → Appended mid end (undoneBefore cycled []) after last → end ≤ length row → last ≤ length mid
-      → Turned c ring other cycled row at after last
-  unfolding place
-  turned {cycled} {row} {mid} {after} {at} {end} {last} a b k l =
+  -- the ring up to there stands, undone, behind the letters cycled, and all of it is undone
+  pub turned : {cycled row mid after : List ℕ} {from at end : ℕ}
+      → Appended row at (undoneBefore (take i ring) []) mid end → Undone mid from end after
+      → take at row ≡ take from row ++ cycled → from ≤ at → end ≤ length row
+      → Turned c ring other cycled row from after end
+  unfolding place undo
+  turned {cycled} {row} {mid} {after} {from} {at} {end} a b t o l =
       let p : place (rotation (alphabet c) ring other) ≡ i = ap place f in
-      let u = undo (alphabet c) cycled [] in
-      let e : undoneBefore cycled [] ≡ u = undone-undo c cycled [] in
+      let r = take i ring in
+      let z : List ℕ = cycled ++ undoneBefore r [] in
+      let e : at ≤ end = omega (arith, a .ends) in
+      let n : length (take from row) ≡ from = length-take-le from row (omega arith) in
+      let w : take end mid ≡ take from row ++ z = appended-take a l
+      ∙ ap (λ (y : List ℕ). y ++ undoneBefore r []) t ∙ append-assoc (take from row) cycled (undoneBefore r []) in
+      let k : take from mid ≡ take from row
+      = sym (take-take from end mid (omega arith)) ∙ ap (take from) w ∙ take-at (take from row) z from n in
+      let d : undoneBefore z [] ≡ r ++ undo (alphabet c) cycled [] = undone-undo c z []
+      ∙ ap (λ (y : List ℕ). undo (alphabet c) (cycled ++ y) []) (undone-undo c r [])
+      ∙ undo-append (alphabet c) cycled (undo (alphabet c) r []) []
+      ∙ undo-undo (alphabet c) r [] (undo (alphabet c) cycled []) in
       record {
         joined = rotated-test (alphabet c) ring other (rotation-rotated (alphabet c) ring other f);
-        written = rw p (appended-take b l ∙ ap (λ (z : List ℕ). z ++ undoneBefore cycled []) (appended-take a k)
-            ∙ append-assoc (take at row) (take i ring) (undoneBefore cycled [])
-            ∙ ap (λ (z : List ℕ). take at row ++ (take i ring ++ z)) e);
-        ends = rw p (omega (arith, a .ends, b .ends, ap length e, length-append (take i ring) u));
+        written = rw p (undone-take b z (w ∙ ap (λ (y : List ℕ). y ++ z) (sym k)) (omega arith)
+            (omega (arith, appended-length a l)) ∙ ap (λ (y : List ℕ). y ++ undoneBefore z []) k
+            ∙ ap (λ (y : List ℕ). take from row ++ y) d);
+        ends = rw p (omega (
+          arith,
+          n,
+          ap length w,
+          length-take-le end mid (omega (arith, appended-length a l)),
+          length-append (take from row) z,
+          undone-length z [],
+          ap length d,
+        ));
       }

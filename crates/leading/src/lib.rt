@@ -9,15 +9,16 @@ use ringing::ring_of;
 use ringing::sheet;
 use rotation::Start;
 use rotation::rotation;
-use row::append;
 use row::append_undone;
+use row::undo_between;
 ghost use Prim.Native.Nat.{ℕ, _+_, _*_, _<_, _≤_};
 ghost use mathlib.Core.Path.{_≡_};
-ghost use mathlib.Core.List.{List, [], _∷_};
-ghost use lib.ListN.{length};
+ghost use mathlib.Core.List.{List, [], _∷_, _++_};
+ghost use lib.ListN.{length, take};
 ghost use Rattle.plan.specs.Letters.{alphabet};
 ghost use Rattle.conjugacy.specs.Part.{apexes};
 ghost use Rattle.leading.specs.Lead.{
+  Turnable,
   Turns,
   Partable,
   Leads,
@@ -36,19 +37,20 @@ pub enum Outcome {
 }
 
 // The way from a ring to another, behind the first bytes of the row: the ring up to the place at which the rings agree,
-// and the letters cycled, undone.
-fn join_rings(ring: &[u8], other: &[u8], cycled: &[u8], row: &mut [u8], at: usize) -> Outcome
-    requires { ⌜ (length (now ring) ≡ length (now other)
-        → at + (length (now ring) + length (now cycled)) ≤ length (now row)) ⌝ }
-    ensures { λ r. ⌜ ((c : List ℕ) → Turns c (now (ring .entry)) (now (other .entry)) (now (cycled .entry))
-        (now (row .entry)) at (now (row .exit)) r) ⌝ }
+// and the letters cycled, undone. Those stand in the row up to `at`; the ring's letters are put behind them, undone, and
+// then all of it is undone where it stands.
+fn join_rings(ring: &[u8], other: &[u8], row: &mut [u8], from: usize, at: usize) -> Outcome
+    requires { ⌜ Turnable (now ring) (now row) from at ⌝ }
+    ensures { λ r. ⌜ ((c cycled : List ℕ) → take at (now (row .entry)) ≡ take from (now (row .entry)) ++ cycled
+        → Turns c (now (ring .entry)) (now (other .entry)) cycled (now (row .entry)) from (now (row .exit)) r) ⌝ }
 {
     let found = rotation(ring, other);
     let Start::At(start) = found else {
         return Outcome::Apart;
     };
-    let end = append(row, at, &ring[..start]);
-    Outcome::Joined(append_undone(row, end, cycled))
+    let end = append_undone(row, at, &ring[..start]);
+    undo_between(row, from, end);
+    Outcome::Joined(end)
 }
 
 // The lead-in from the first core's part with this apex to the second's, behind the first bytes of the row.
@@ -59,33 +61,18 @@ fn join_part(
     apex: u8,
     rounds: usize,
     conflicts: &[[u16; 24]; 24],
-    under: &mut [u16],
-    link: &mut [u16],
-    cycled: &mut [u8],
     row: &mut [u8],
     at: usize,
 ) -> Outcome
-    requires { ⌜ ((c : List ℕ) × Partable c (now conflicts) (now x) (now y) (now labels) apex rounds (now under)
-        (now link) (now cycled) (now row) at) ⌝ }
+    requires { ⌜ ((c : List ℕ) × Partable c (now conflicts) (now x) (now y) (now labels) apex rounds (now row) at) ⌝ }
     ensures { λ r. ⌜ ((c : List ℕ)
         → Partable c (now (conflicts .entry)) (now (x .entry)) (now (y .entry)) (now (labels .entry)) apex rounds
-        (now (under .entry)) (now (link .entry)) (now (cycled .entry)) (now (row .entry)) at
+        (now (row .entry)) at
         → Leads c (now (x .entry)) (now (y .entry)) (apex ∷ []) (now (row .entry)) at (now (row .exit)) r) ⌝ }
 {
     let mut ring = sheet();
     let mut other = sheet();
-    let first = ring_of(
-        x,
-        labels,
-        apex,
-        rounds,
-        conflicts,
-        under,
-        link,
-        &mut ring,
-        row,
-        at,
-    );
+    let first = ring_of(x, labels, apex, rounds, conflicts, &mut ring, row, at);
     let Ringed::Of(one) = first else {
         return Outcome::Unsettled(1);
     };
@@ -95,11 +82,9 @@ fn join_part(
         apex,
         rounds,
         conflicts,
-        under,
-        link,
         &mut other,
-        cycled,
-        0,
+        row,
+        one.cycled,
     );
     let Ringed::Of(two) = second else {
         return Outcome::Unsettled(2);
@@ -107,9 +92,9 @@ fn join_part(
     join_rings(
         &ring[..one.ring],
         &other[..two.ring],
-        &cycled[..two.cycled],
         row,
         one.cycled,
+        two.cycled,
     )
 }
 
@@ -122,18 +107,14 @@ fn join_at(
     k: usize,
     rounds: usize,
     conflicts: &[[u16; 24]; 24],
-    under: &mut [u16],
-    link: &mut [u16],
-    cycled: &mut [u8],
     row: &mut [u8],
     at: usize,
 ) -> Outcome
     requires { ⌜ (k < 24) × ((c : List ℕ) × Placeable c (now conflicts) (now x) (now y) (now flags) (now labels) k
-        rounds (now under) (now link) (now cycled) (now row) at) ⌝ }
+        rounds (now row) at) ⌝ }
     ensures { λ r. ⌜ ((c : List ℕ)
         → Placeable c (now (conflicts .entry)) (now (x .entry)) (now (y .entry)) (now (flags .entry))
-        (now (labels .entry)) k rounds (now (under .entry)) (now (link .entry)) (now (cycled .entry))
-        (now (row .entry)) at
+        (now (labels .entry)) k rounds (now (row .entry)) at
         → Leads c (now (x .entry)) (now (y .entry)) (apexAt (now (flags .entry)) (now (labels .entry)) k)
         (now (row .entry)) at (now (row .exit)) r) ⌝ }
 {
@@ -143,19 +124,7 @@ fn join_at(
     if labels[k] != (k + 1) as u8 {
         return Outcome::Joined(at);
     }
-    join_part(
-        x,
-        y,
-        labels,
-        labels[k],
-        rounds,
-        conflicts,
-        under,
-        link,
-        cycled,
-        row,
-        at,
-    )
+    join_part(x, y, labels, labels[k], rounds, conflicts, row, at)
 }
 
 // The lead-ins of all parts, one after the other.
@@ -166,39 +135,22 @@ fn join_parts(
     labels: &[u8; 24],
     rounds: usize,
     conflicts: &[[u16; 24]; 24],
-    under: &mut [u16],
-    link: &mut [u16],
-    cycled: &mut [u8],
     row: &mut [u8],
     at: usize,
 ) -> Outcome
     requires { ⌜ ((c : List ℕ)
-        × Leadable c (now conflicts) (now x) (now y) (now flags) (now labels) rounds (now under) (now link)
-        (now cycled)
-        × (at + 2 * rounds * length (now x) ≤ length (now row))) ⌝ }
+        × Leadable c (now conflicts) (now x) (now y) (now flags) (now labels) rounds
+        × (at + rounds * (length (now x) + length (now y)) ≤ length (now row))) ⌝ }
     ensures { λ r. ⌜ ((c : List ℕ)
         → Leadable c (now (conflicts .entry)) (now (x .entry)) (now (y .entry)) (now (flags .entry))
-        (now (labels .entry)) rounds (now (under .entry)) (now (link .entry)) (now (cycled .entry))
+        (now (labels .entry)) rounds
         → Leads c (now (x .entry)) (now (y .entry)) (apexes (alphabet c) (now (x .entry))) (now (row .entry)) at
         (now (row .exit)) r) ⌝ }
 {
     let mut end = at;
     let mut k = 0;
     while k < 24 {
-        let way = join_at(
-            x,
-            y,
-            flags,
-            labels,
-            k,
-            rounds,
-            conflicts,
-            under,
-            link,
-            cycled,
-            row,
-            end,
-        );
+        let way = join_at(x, y, flags, labels, k, rounds, conflicts, row, end);
         let Outcome::Joined(next) = way else {
             return way;
         };
@@ -215,17 +167,12 @@ pub fn join_cores(
     y: &[u8],
     rounds: usize,
     conflicts: &[[u16; 24]; 24],
-    under: &mut [u16],
-    link: &mut [u16],
-    cycled: &mut [u8],
     row: &mut [u8],
     at: usize,
 ) -> Outcome
-    requires { ⌜ ((c : List ℕ) × Coreable c (now conflicts) (now x) (now y) rounds (now under) (now link) (now cycled)
-        (now row) at) ⌝ }
+    requires { ⌜ ((c : List ℕ) × Coreable c (now conflicts) (now x) (now y) rounds (now row) at) ⌝ }
     ensures { λ r. ⌜ ((c : List ℕ)
-        → Coreable c (now (conflicts .entry)) (now (x .entry)) (now (y .entry)) rounds (now (under .entry))
-        (now (link .entry)) (now (cycled .entry)) (now (row .entry)) at
+        → Coreable c (now (conflicts .entry)) (now (x .entry)) (now (y .entry)) rounds (now (row .entry)) at
         → CoresLead c (now (x .entry)) (now (y .entry)) (now (row .entry)) at (now (row .exit)) r) ⌝ }
 {
     let flags = occurring(x);
@@ -234,17 +181,5 @@ pub fn join_cores(
         return Outcome::Apart;
     }
     let names = labels(&flags, conflicts);
-    join_parts(
-        x,
-        y,
-        &flags,
-        &names,
-        rounds,
-        conflicts,
-        under,
-        link,
-        cycled,
-        row,
-        at,
-    )
+    join_parts(x, y, &flags, &names, rounds, conflicts, row, at)
 }

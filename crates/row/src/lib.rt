@@ -1,5 +1,5 @@
-// Long words built in a row: a word appended to what stands in it, as it is or undone, and a part of the row undone where
-// it stands; and rows to work in.
+// Long words built in a row: a word appended to what stands in it, as it is or undone, and a part of it undone where it
+// stands; and rows to work in.
 
 use plan::undo;
 ghost use Prim.Native.Nat.{_+_, _≤_};

@@ -14,7 +14,7 @@ abbrev flagged : tie.After-same-commands → tie.After-occurring2
 flagged m = m .before .before .before
 
 abbrev start : tie.After-same-commands → tie.Start
-start m = flagged m .before .before .before .before .before .before .before .before
+start m = flagged m .before .before .before .before .before
 
 -- the same commands occur
 same : (l : tie.After-labels) (k : List ℕ)
@@ -27,10 +27,10 @@ same l k =
     (l .before .before .if1 .left)
 
 occurring-requires : tie.Need-occurring-requires
-occurring-requires c κs = cyclic-lettered (c .before .before .before .before .before .before .pre .1 .first)
+occurring-requires c κs = cyclic-lettered (c .before .before .before .pre .1 .first)
 
 occurring-requires-2 : tie.Need-occurring-requires-2
-occurring-requires-2 c κs = cyclic-lettered (c .before .before .before .before .before .before .before .pre .1 .second)
+occurring-requires-2 c κs = cyclic-lettered (c .before .before .before .before .pre .1 .second)
 
 same-commands-requires : tie.Need-same-commands-requires
 same-commands-requires c κs = search needs
@@ -48,7 +48,7 @@ labels-requires c κs = search needs
 
 join-parts-requires : tie.Need-join-parts-requires
 join-parts-requires c κs =
-    let l = c .before .before .before .before .before .before in
+    let l = c .before .before .before in
     let m = l .before .before .before in
     let (k, h) = start m .pre in
     let f = flagged m .before .occurring .ensures k in
@@ -57,24 +57,15 @@ join-parts-requires c κs =
 same-length : tie.Need-same-length
 same-length c = search needs
 
-same-length-2 : tie.Need-same-length-2
-same-length-2 c = search needs
-
-same-length-3 : tie.Need-same-length-3
-same-length-3 c = search needs
-
-same-length-4 : tie.Need-same-length-4
-same-length-4 c = search needs
-
 returns-2 : tie.Need-returns-2
 returns-2 c =
-    let a = c .before .before .before .before .before .before .before .before in
-    let l = a .before .before .before .before .before .before .before in
+    let a = c .before .before in
+    let l = a .before .before .before .before in
     let m = l .before .before .before in
     let j = a .join-parts in
     λ k h.
     let f = flagged m .before .occurring .ensures k in
-    cores-lead h (same l k) (j .last .1 .1 .1 .1 .1 .1 .1 .1 .1 .0) (j .result)
+    cores-lead h (same l k) (j .last .1 .1 .1 .1 .1 .1 .0) (j .result)
     (j .ensures k (cores-leadable h (same l k) f (l .labels .ensures k _ (h .first .table) f)))
 
 pub join-cores-spec : {M : Type 1} → statement M
@@ -88,7 +79,4 @@ join-cores-spec =
     labels-requires
     join-parts-requires
     same-length
-    same-length-2
-    same-length-3
-    same-length-4
     returns-2)
