@@ -14,8 +14,8 @@ use Rattle.refusal.specs.declared.Checked.{Checked}
 use Rattle.refusal.specs.declared.Checked.the-variants.{Refused, Passed}
 use Rattle.catalogue.specs.Catalogue.{commands}
 use Rattle.leading.specs.declared.Outcome.{Outcome}
-use Rattle.joining.specs.Join as Join
-use Rattle.joining.specs.Join.{Plans, Told}
+use Rattle.crossing.specs.Join as Join
+use Rattle.crossing.specs.Join.{Plans, Told}
 use Rattle.joining.specs.UnsettledLaws.{never-unsettled}
 use Rattle.entry.specs.Entry.{TwoPlans, twoLines}
 use Rattle.entry.specs.EntryLaws.{entered-none, entered-some, entered-commands}

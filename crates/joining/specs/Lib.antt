@@ -1,6 +1,2 @@
-pub mod VerdictLaws
-pub mod Stripped
-pub mod StrippedLaws
 pub mod UnsettledLaws
-pub mod Join
-pub mod JoinLaws
+pub mod CoresLaws

@@ -1,22 +1,18 @@
--- What the lead-ins of the parts of two cores ask and give. They are written one after the other behind what stands in
--- a row.
-use Prim.Native.Nat.{ℕ, zero, suc, _+_, _*_, _≤_}
+-- What the lead-in of one part of two cores asks and gives. It is written behind what stands in a row.
+use Prim.Native.Nat.{ℕ, _+_, _*_, _≤_}
 use mathlib.Core.Path.{_≡_}
-use mathlib.Core.Bool.{true, false, _&&_}
+use mathlib.Core.Bool.{true, false}
 use mathlib.Core.List.{List, [], _++_}
-use lib.ListN.{length, take, getD}
-use lib.Dec.{eqb}
+use lib.ListN.{length, take}
 use Rattle.catalogue.specs.Catalogue as Catalogue
 use Rattle.words.specs.Group.{undo}
 use Rattle.plan.specs.Letters.{alphabet}
 use Rattle.conjugacy.specs.AscendingLaws.{_∈_}
-use Rattle.conjugacy.specs.Part.{chosen-step, commands, label, apexes, part}
-use Rattle.conjugacy.specs.PartLaws.{shares}
+use Rattle.conjugacy.specs.Part.{commands, apexes, part}
 use Rattle.conjugacy.specs.Rotation.{rotation}
-use Rattle.conjugacy.specs.Decision.{rotated?, parts-joined?, cores-joined?}
+use Rattle.conjugacy.specs.Decision.{rotated?, parts-joined?}
 use Rattle.conjugacy.specs.LeadIn.{place, parts-lead}
-use Rattle.parts.specs.Flags.{Flags}
-use Rattle.ringing.specs.Ring.{Cyclic, Labelled}
+use Rattle.ringing.specs.Ring.{Labelled}
 use Rattle.leading.specs.declared.Outcome.{Outcome}
 use Rattle.leading.specs.declared.Outcome.the-variants.{Joined, Apart, Unsettled}
 
@@ -65,63 +61,8 @@ Leads c x y ms before at after (Joined end) = Led c x y ms before at after end
 Leads c x y ms before at after Apart = parts-joined? (alphabet c) ms x y ≡ false
 Leads c x y ms before at after (Unsettled p) = ⊥
 
--- command k + 1, if it is flagged and its own label
-unfoldable pub apexAt : List ℕ → List ℕ → ℕ → List ℕ
-apexAt fs labels k = chosen-step (eqb (getD fs k 0) 1 && eqb (getD labels k 0) (k + 1)) (k + 1) []
-
--- several parts: the flags tell of the commands that occur, and the rounds are as many as commands
-pub record Leadable (c : List ℕ) (conflicts : List (List ℕ)) (x y fs labels : List ℕ) (rounds : ℕ)
-    : Type 0 where
-  pub two : Two c conflicts x y labels
-  pub flags : Flags (commands (alphabet c) x) fs
-  pub enough : rounds ≡ Catalogue.commands c
-
--- the letters of x in the parts with these apexes
-abbrev pub partsOf : List ℕ → List ℕ → List ℕ → List ℕ
-partsOf c ms x = shares (alphabet c) (label (alphabet c) x) ms x
-
--- one command: the row has room behind place `at` for its part, if it is an apex
-pub record Placeable (c : List ℕ) (conflicts : List (List ℕ)) (x y fs labels : List ℕ) (k rounds : ℕ)
-    (row : List ℕ) (at : ℕ) : Type 0 where
-  pub leadable : Leadable c conflicts x y fs labels rounds
-  pub room : at + rounds * (length (partsOf c (apexAt fs labels k) x) + length (partsOf c (apexAt fs labels k) y))
-      ≤ length row
-
--- two whole cores: the rounds are as many as commands, and the row has room behind place `at` for the lead-ins of all
--- parts
-pub record Coreable (c : List ℕ) (conflicts : List (List ℕ)) (x y : List ℕ) (rounds : ℕ) (row : List ℕ)
-    (at : ℕ) : Type 0 where
-  pub first : Cyclic c conflicts x
-  pub second : Cyclic c conflicts y
-  pub enough : rounds ≡ Catalogue.commands c
-  pub room : at + rounds * (length x + length y) ≤ length row
-
--- the cores are joined, and behind the first `at` bytes now stand the lead-ins of their parts, up to `end`
-pub record CoresLed (c x y before : List ℕ) (at : ℕ) (after : List ℕ) (end : ℕ) : Type 0 where
-  pub joined : cores-joined? (alphabet c) x y ≡ true
-  pub written : take end after ≡ take at before ++ parts-lead (alphabet c) (apexes (alphabet c) x) x y
-  pub ends : end ≡ at + length (parts-lead (alphabet c) (apexes (alphabet c) x) x y)
-
-abbrev pub CoresLead : List ℕ → List ℕ → List ℕ → List ℕ → ℕ → List ℕ → Outcome → Type 0
-CoresLead c x y before at after (Joined end) = CoresLed c x y before at after end
-CoresLead c x y before at after Apart = cores-joined? (alphabet c) x y ≡ false
-CoresLead c x y before at after (Unsettled p) = ⊥
-
 -- an outcome that is no lead-in
 abbrev pub Stops : Outcome → Type 0
 Stops (Joined end) = ⊥
 Stops Apart = Unit {0}
 Stops (Unsettled p) = Unit {0}
-
--- the apexes among n commands from k + 1 on
-unfoldable pub apexesFrom : List ℕ → List ℕ → ℕ → ℕ → List ℕ
-apexesFrom fs labels zero k = []
-apexesFrom fs labels (suc n) k = apexAt fs labels k ++ apexesFrom fs labels n (k + 1)
-
--- the apexes up to command k are joined, and their lead-ins stand in the row
-pub record Sofar (c x y fs labels before : List ℕ) (at : ℕ) (after : List ℕ) (end k : ℕ) : Type 0 where
-  pub done : List ℕ
-  pub left : ℕ
-  pub count : left + k ≡ 24
-  pub all : done ++ apexesFrom fs labels left k ≡ apexes (alphabet c) x
-  pub led : Led c x y done before at after end

@@ -19,7 +19,7 @@ use Rattle.conjugacy.specs.LeadIn.{part-lead, parts-lead}
 use Rattle.parts.specs.Flags.{Flags, LabelsOf}
 use Rattle.parts.specs.Merge.{flagged}
 use Rattle.parts.specs.FlagsLaws.{flags-list}
-use Rattle.leading.specs.Lead.{apexAt, apexesFrom}
+use Rattle.pairing.specs.Pair.{apexAt, apexesFrom}
 
 and-assoc : (a b c : Bool) → ((a && b) && c) ≡ (a && (b && c))
 and-assoc true b c = refl

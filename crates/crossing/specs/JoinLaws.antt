@@ -1,8 +1,8 @@
 -- Joining two plans: what each step asks follows from the plans and the rows, and the word in the row is a lead-in.
-use Prim.Native.Nat.{ℕ, _+_, _*_, _≤_}
+use Prim.Native.Nat.{ℕ, zero, suc, _+_, _*_, _≤_}
 use native.Mathlib.Omega.{arith}
-use native.Mathlib.Nat.{mul-le-mul-right}
-use mathlib.Core.Path.{_≡_, sym, _∙_, ap, subst, subst₂}
+use native.Mathlib.Nat.{mul-le-mul-right, mul-add}
+use mathlib.Core.Path.{_≡_, refl, sym, _∙_, ap, subst, subst₂}
 use mathlib.Core.List.{List, [], _++_, append-assoc}
 use lib.ListN.{length, take, drop, length-append, length-take}
 use lib.Seq.{take-at}
@@ -16,52 +16,25 @@ use Rattle.conjugacy.specs.LeadIn.{parts-lead}
 use Rattle.catalogue.specs.Catalogue.{commands}
 use Rattle.plan.specs.Letters.{letters, alphabet, undoneBefore, normalForm}
 use Rattle.plan.specs.LettersLaws.{letters-length, commands-passing}
-use Rattle.coring.specs.Coring.{CoreOf}
 use Rattle.reduction.specs.Reducing.{Given}
-use Rattle.longform.specs.Form.{Room, Written}
+use Rattle.longform.specs.Form.{Written}
+use Rattle.forming.specs.Forming.{Formable}
 use Rattle.row.specs.Row.{Appended}
 use Rattle.row.specs.RowLaws.{appended-take, appended-length, undone-length}
 use Rattle.ringing.specs.Ring.{Cyclic}
 use Rattle.leading.specs.declared.Outcome.{Outcome}
 use Rattle.leading.specs.declared.Outcome.the-variants.{Joined, Apart, Unsettled}
-use Rattle.leading.specs.Lead.{Coreable, CoresLed, CoresLead, Stops}
+use Rattle.leading.specs.Lead.{Stops}
+use Rattle.pairing.specs.Pair.{Coreable, CoresLed, CoresLead}
 use Rattle.leading.specs.TurnLaws.{undone-undo}
 use Rattle.calls.specs.Calls.{coreForm}
 use Rattle.calls.specs.Loops.{leadInRoom}
 use Rattle.engine.specs.Passed.{Passed}
-use Rattle.joining.specs.VerdictLaws.{through}
-use Rattle.joining.specs.Stripped.{Stripped}
-use Rattle.joining.specs.StrippedLaws.{form-~, core-~, off-length, off-commands, verdict, through-commands}
-use Rattle.joining.specs.StrippedLaws.{through-short, through-lead-in}
-use Rattle.joining.specs.Join.{Plans, Rooms, LeadWord, LeadsWord, Told, joined, apart}
-
--- what is lent of a core, and of the letters taken off
-
-module _ {c v core lead core′ lead′ : List ℕ} {n m : ℕ} (k : CoreOf c v core lead core′ lead′ n m) where
-  pub stripped : Stripped c v (take n core′) (take m lead′)
-  stripped = record {
-    form = ap (take n) (k .form .area) ∙ take-at (coreForm c v) _ n (sym (k .form .count));
-    off = k .off;
-  }
-
-  pub form-count : n ≡ length (take n core′)
-  form-count = k .form .count ∙ ap length (sym (stripped .form))
-
-  pub off-count : m ≡ length (take m lead′)
-  off-count = omega (
-    arith,
-    k .count,
-    core-length (alphabet c) (letters v),
-    ~-length (alphabet c) (k .off),
-    ~-length (alphabet c) (form-~ c v),
-    k .form .count,
-  )
-
-  pub form-fits : n ≤ length core′
-  form-fits = omega (arith, form-count, length-take n core′)
-
-  pub off-fits : m ≤ length lead′
-  off-fits = omega (arith, off-count, length-take m lead′)
+use Rattle.crossing.specs.VerdictLaws.{through}
+use Rattle.crossing.specs.Stripped.{Stripped}
+use Rattle.crossing.specs.StrippedLaws.{core-~, off-length, off-commands, no-letters, verdict}
+use Rattle.crossing.specs.StrippedLaws.{through-commands, through-room, through-short, through-lead-in}
+use Rattle.crossing.specs.Join.{Plans, Cores, crossRoom, LeadWord, LeadsWord, Told, joined, apart}
 
 -- a plan's core is cyclically reduced
 pub stripped-cyclic : {c : List ℕ} {conflicts : List (List ℕ)} {v x g : List ℕ} → Passed c conflicts v
@@ -74,60 +47,56 @@ stripped-cyclic {c} {v = v} p k = record {
   short = omega (arith, off-length c k, letters-length v, p .short);
 }
 
-module _ {c : List ℕ} {conflicts : List (List ℕ)} {v w : List ℕ} {n : ℕ} (p : Plans c conflicts v w n)
-    {x y g h : List ℕ} (k : Stripped c v x g) (l : Stripped c w y h) where
-  few : n ≤ 24
-  few = omega (arith, p .many, p .first .few)
+-- room for the letters taken off and what as many rounds as commands cycle
+around : (n g x h y : ℕ) → (n ≡ 0 → (2 * g + x) + (2 * h + y) ≡ 0)
+    → g + n * (x + y) ≤ n * ((2 * g + x) + (2 * h + y))
+around zero g x h y z = let e = z refl in omega arith
+around (suc n) g x h y z =
+    let d = 2 * g + 2 * h in
+    let e : (2 * g + x) + (2 * h + y) ≡ d + (x + y) = omega arith in
+    let f : 1 * d ≤ suc n * d = mul-le-mul-right d (omega arith) in
+    omega (arith, f, mul-add (suc n) d (x + y), ap (λ m. suc n * m) e)
+
+module _ {c : List ℕ} {conflicts : List (List ℕ)} {v w x g y h : List ℕ} {n : ℕ}
+    (k : Cores c conflicts v w x g y h n) where
+  abbrev p : Plans c conflicts v w n
+  p = k .plans
 
   -- the row and the way from core to core
-  module _ {most : ℕ} {under link cycled row : List ℕ} (r : Rooms most v w under link cycled row) where
+  module _ (row : List ℕ) (r : crossRoom n x g y h ≤ length row) where
+    begun : length g + n * (length x + length y) ≤ length row
+    begun =
+        let z = no-letters c (p .first .few) (p .first .passing) (p .second .passing) (k .first) (k .second) in
+        let e = around n (length g) (length x) (length h) (length y) (λ m. z (sym (p .many) ∙ m)) in
+        omega (arith, e, r)
+
     pub join-off : 0 + length g ≤ length row
-    join-off = omega (arith, off-length c k, letters-length v, r .first, r .rows)
+    join-off = omega (arith, begun)
 
-    pub join-coreable : {row′ : List ℕ} {at : ℕ} → Appended row 0 g row′ at
-        → Coreable c conflicts x y n under link cycled row′ at
-    join-coreable {row′} {at} a = record {
-      first = stripped-cyclic (p .first) k;
-      second = stripped-cyclic (p .second) l;
+    pub join-coreable : {row′ : List ℕ} {at : ℕ} → Appended row 0 g row′ at → Coreable c conflicts x y n row′ at
+    join-coreable a = record {
+      first = stripped-cyclic (p .first) (k .first);
+      second = stripped-cyclic (p .second) (k .second);
       enough = p .many;
-      sheets = record {
-        long = r .unders .1;
-        wide = r .links .1;
-        aside = omega (arith, mul-le-mul-right (length y) few, off-length c l, letters-length w, r .second, r .aside);
-      };
-      room =
-          let e : 2 * n * length x ≤ 48 * length x = mul-le-mul-right (length x) (omega (arith, few)) in
-          omega (
-            arith,
-            a .ends,
-            off-length c k,
-            letters-length v,
-            r .first,
-            r .rows,
-            appended-length a (omega (arith, a .ends, join-off)),
-          );
+      room = omega (arith, a .ends, begun, appended-length a (omega (arith, a .ends, begun)));
     }
-
-    room-enough : leadInRoom c v w ≤ 48 * most
-    room-enough =
-        let e : commands c * (length v + length w) ≤ 24 * (length v + length w) =
-        mul-le-mul-right (length v + length w) (p .first .few) in
-        omega (arith, r .first, r .second)
 
     pub join-short : {row′ : List ℕ} {at end : ℕ} {row″ : List ℕ} → Appended row 0 g row′ at
         → CoresLed c x y row′ at row″ end → end + length h ≤ length row
     join-short a j =
         let u = parts-lead (alphabet c) (apexes (alphabet c) x) x y in
+        let t = through-room c (p .first .few) (p .first .passing) (p .second .passing) (k .first) (k .second)
+        (j .joined) in
+        let s = subst (λ m. length (through (alphabet c) g x y h) ≤ crossRoom m x g y h) (sym (p .many)) t in
         omega (
           arith,
           a .ends,
           j .ends,
-          through-short c (p .first .few) (p .first .passing) (p .second .passing) k l (j .joined),
+          s,
           length-append g (u ++ undo (alphabet c) h []),
           length-append u (undo (alphabet c) h []),
           undo-length (alphabet c) h [],
-          room-enough,
-          r .rows,
+          r,
         )
 
   -- the verdict, where there is no lead-in
@@ -135,7 +104,7 @@ module _ {c : List ℕ} {conflicts : List (List ℕ)} {v w : List ℕ} {n : ℕ}
       → CoresLead c x y before at after o → LeadsWord c v w after o
   join-stop before at after (Joined e) s d = absurd s
   join-stop before at after Apart s d =
-      sym (verdict c (p .first .few) (p .first .passing) (p .second .passing) k l) ∙ d
+      sym (verdict c (p .first .few) (p .first .passing) (p .second .passing) (k .first) (k .second)) ∙ d
   join-stop before at after (Unsettled q) s d = d
 
   -- the word in the row
@@ -149,7 +118,7 @@ module _ {c : List ℕ} {conflicts : List (List ℕ)} {v w : List ℕ} {n : ℕ}
       appended-take b (omega (arith, b .ends, undone-length h []))
       ∙ ap (λ (z : List ℕ). z ++ undoneBefore h []) (j .written ∙ ap (λ (z : List ℕ). z ++ u) (appended-take a m))
       ∙ append-assoc g u (undoneBefore h []) ∙ ap (λ (z : List ℕ). g ++ (u ++ z)) (undone-undo c h []) in
-      let s = through-short c (p .first .few) (p .first .passing) (p .second .passing) k l (j .joined) in
+      let s = through-short c (p .first .few) (p .first .passing) (p .second .passing) (k .first) (k .second) (j .joined) in
       let q : last ≡ length t = omega (
         arith,
         a .ends,
@@ -161,11 +130,11 @@ module _ {c : List ℕ} {conflicts : List (List ℕ)} {v w : List ℕ} {n : ℕ}
         undo-length (alphabet c) h [],
       ) in
       record {
-        joined = sym (verdict c (p .first .few) (p .first .passing) (p .second .passing) k l) ∙ j .joined;
+        joined = sym (verdict c (p .first .few) (p .first .passing) (p .second .passing) (k .first) (k .second)) ∙ j .joined;
         count = q ∙ ap length (sym e);
-        letters = rw e (through-commands c (p .first .few) (p .first .passing) (p .second .passing) k l (j .joined));
+        letters = rw e (through-commands c (p .first .few) (p .first .passing) (p .second .passing) (k .first) (k .second) (j .joined));
         short = omega (arith, q, s);
-        leads = rw e (through-lead-in c (p .first .few) (p .first .passing) (p .second .passing) k l (j .joined));
+        leads = rw e (through-lead-in c (p .first .few) (p .first .passing) (p .second .passing) (k .first) (k .second) (j .joined));
       }
 
 -- what the way from core to core tells
@@ -203,17 +172,13 @@ module _ {c : List ℕ} {conflicts : List (List ℕ)} {v w : List ℕ} {n : ℕ}
         short = omega (arith, d .count, word-short, p .first .short, p .second .short);
       }
 
-  pub word-room : {most : ℕ} {under link cycled row₀ under′ link′ area : List ℕ}
-      → Rooms most v w under link cycled row₀ → length under′ ≡ length under → length link′ ≡ length link
-      → n * (length v + length w) ≤ length area → Room (take end row) under′ link′ area
-  word-room {most} r u l f =
-      let e : n * (length v + length w) ≤ 24 * (length v + length w) =
-      mul-le-mul-right (length v + length w) (omega (arith, p .many, p .first .few)) in
-      record {
-        unders = omega (arith, d .count, word-short, r .first, r .second, r .unders .0);
-        links = omega (arith, d .count, word-short, r .first, r .second, r .links .0);
-        fits = omega (arith, d .count, word-short, letters-length (take end row));
-      }
+  pub word-formable : {area : List ℕ} → n * (length v + length w) ≤ length area
+      → Formable 50176 c conflicts (take end row) area
+  word-formable f = record {
+    given = word-given;
+    short = word-given .short;
+    fits = omega (arith, d .count, word-short, letters-length (take end row));
+  }
 
   pub word-told : {area after : List ℕ} {r : ℕ} → Written c (take end row) area after r
       → Told c v w area (Joined r) after

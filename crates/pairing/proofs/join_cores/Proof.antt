@@ -6,9 +6,9 @@ use borrow.Author.Needs.{needs}
 use Rattle.plan.specs.Letters.{alphabet}
 use Rattle.conjugacy.specs.Part.{commands}
 use Rattle.ringing.specs.RingLaws.{cyclic-lettered}
-use Rattle.leading.specs.CoreLaws.{tells-same, cores-apart, cores-leadable, cores-lead}
-use Rattle.leading.proofs.join_cores.Statement.{statement}
-use Rattle.leading.proofs.join_cores.Tie as tie
+use Rattle.pairing.specs.CoreLaws.{tells-same, cores-apart, cores-leadable, cores-lead}
+use Rattle.pairing.proofs.join_cores.Statement.{statement}
+use Rattle.pairing.proofs.join_cores.Tie as tie
 
 abbrev flagged : tie.After-same-commands → tie.After-occurring2
 flagged m = m .before .before .before

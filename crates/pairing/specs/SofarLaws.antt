@@ -20,11 +20,12 @@ use Rattle.conjugacy.specs.Decision.{part-ring, rotated?, parts-joined?}
 use Rattle.conjugacy.specs.LeadIn.{parts-lead}
 use Rattle.conjugacy.specs.LeadInLaws.{both, apical-part, parts-length}
 use Rattle.conjugacy.specs.JoinLaws.{parts-lead-length}
 use Rattle.leading.specs.declared.Outcome.{Outcome}
 use Rattle.leading.specs.declared.Outcome.the-variants.{Joined, Apart, Unsettled}
-use Rattle.leading.specs.Lead.{Led, Leads, apexAt, partsOf, apexesFrom, Leadable, Placeable, Stops}
-use Rattle.leading.specs.Lead.{Sofar}
-use Rattle.leading.specs.ApexLaws.{shares-append, joined-append, lead-append, apexes-from}
+use Rattle.leading.specs.Lead.{Led, Leads, Stops}
+use Rattle.pairing.specs.Pair.{apexAt, partsOf, apexesFrom, Leadable, Placeable}
+use Rattle.pairing.specs.Pair.{Sofar}
+use Rattle.pairing.specs.ApexLaws.{shares-append, joined-append, lead-append, apexes-from}
 
 -- no lead-in yet
 pub led-nothing : (c x y row : List ℕ) (at : ℕ) → Led c x y [] row at row at

@@ -1,9 +1,9 @@
 -- A command that does not occur, or has another label, adds nothing; any other is an apex. Assumes nothing.
 use native.Mathlib.Omega.{arith}
 use borrow.Author.Needs.{needs}
-use Rattle.leading.specs.PlaceLaws.{place-absent, place-other, place-partable, place-leads}
-use Rattle.leading.proofs.join_at.Statement.{statement}
-use Rattle.leading.proofs.join_at.Tie as tie
+use Rattle.pairing.specs.PlaceLaws.{place-absent, place-other, place-partable, place-leads}
+use Rattle.pairing.proofs.join_at.Statement.{statement}
+use Rattle.pairing.proofs.join_at.Tie as tie
 
 abbrev start : tie.Else2 → tie.Start
 start e = e .before .before .before .before .before .before .before

@@ -11,9 +11,10 @@ use Rattle.conjugacy.specs.Decision.{alike?, parts-joined?, cores-joined?}
 use Rattle.conjugacy.specs.DecisionLaws.{alike-true, alike-refl}
 use Rattle.ringing.specs.PartLaws.{not-true}
 use Rattle.parts.specs.Flags.{Flags, LabelsOf}
 use Rattle.leading.specs.declared.Outcome.{Outcome}
 use Rattle.leading.specs.declared.Outcome.the-variants.{Joined, Apart, Unsettled}
-use Rattle.leading.specs.Lead.{Leads, Leadable, Coreable, CoresLead}
+use Rattle.leading.specs.Lead.{Leads}
+use Rattle.pairing.specs.Pair.{Leadable, Coreable, CoresLead}
 
 not-false : (t : Bool) → not t ≡ false → t ≡ true
 not-false true e = refl

@@ -11,10 +11,11 @@ use Rattle.conjugacy.specs.AscendingLaws.{_∈_, chosen-in}
 use Rattle.conjugacy.specs.Part.{commands, label, apexes, part, share}
 use Rattle.conjugacy.specs.PartLaws.{shares, part-share}
 use Rattle.parts.specs.Flags.{Flag, set, clear}
 use Rattle.leading.specs.declared.Outcome.{Outcome}
-use Rattle.leading.specs.Lead.{Partable, Led, Leads, apexAt, partsOf, Placeable}
-use Rattle.leading.specs.ApexLaws.{apex-absent, apex-other, apex-own}
-use Rattle.leading.specs.SofarLaws.{led-nothing}
+use Rattle.leading.specs.Lead.{Partable, Led, Leads}
+use Rattle.pairing.specs.Pair.{apexAt, partsOf, Placeable}
+use Rattle.pairing.specs.ApexLaws.{apex-absent, apex-other, apex-own}
+use Rattle.pairing.specs.SofarLaws.{led-nothing}
 
 flag-set : {P : Type 0} {n : ℕ} → Flag P n → n ≡ 1 → P
 flag-set (set p) e = p

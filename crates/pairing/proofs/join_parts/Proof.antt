@@ -6,12 +6,12 @@ use mathlib.Core.List.{List}
 use native.Mathlib.Omega.{arith}
 use lib.ListN.{length}
 use borrow.Author.Needs.{needs}
-use Rattle.leading.specs.Lead.{Leadable, Sofar}
-use Rattle.leading.specs.SofarLaws.{sofar-start, sofar-placeable, sofar-again, sofar-stop, sofar-end}
-use Rattle.leading.specs.SofarLaws.{leads-joined}
+use Rattle.pairing.specs.Pair.{Leadable, Sofar}
+use Rattle.pairing.specs.SofarLaws.{sofar-start, sofar-placeable, sofar-again, sofar-stop, sofar-end}
+use Rattle.pairing.specs.SofarLaws.{leads-joined}
 use Rattle.leading.proofs.OutcomeLaws.{stops}
-use Rattle.leading.proofs.join_parts.Statement.{statement}
-use Rattle.leading.proofs.join_parts.Tie as tie
+use Rattle.pairing.proofs.join_parts.Statement.{statement}
+use Rattle.pairing.proofs.join_parts.Tie as tie
 
 abbrev Inv-loop : tie.InvT-loop
 Inv-loop x y flags labels rounds conflicts row₀ at end₀ k₀ row end k =

@@ -32,8 +32,8 @@ use Rattle.plan.specs.NormalFormLaws.{normal-letters, normal-passing}
 use Rattle.plan.specs.JoinLaws.{joins-words}
 use Rattle.calls.specs.Calls.{coreForm}
 use Rattle.calls.specs.Loops.{LeadIn, leadInRoom}
-use Rattle.joining.specs.Stripped.{Stripped}
-use Rattle.joining.specs.VerdictLaws.{cores-verdict, through, through-conj, through-length, through-all}
+use Rattle.crossing.specs.Stripped.{Stripped}
+use Rattle.crossing.specs.VerdictLaws.{cores-verdict, through, through-conj, through-length, through-all}
 
 -- the commands of letters that pass are among 1 to N
 pub commands-range : (n : ℕ) (x : List ℕ) → n ≤ 24 → Commands n x → All (λ a. (1 ≤ commandOf a) × (commandOf a ≤ n)) x
@@ -88,6 +88,14 @@ module _ (c : List ℕ) where
 
   module _ {v w x y g h : List ℕ} (few : commands c ≤ 24) (pv : Passing (commands c) v) (pw : Passing (commands c) w)
       (k : Stripped c v x g) (l : Stripped c w y h) where
+    -- with no commands there are no letters
+    pub no-letters : commands c ≡ 0 → (2 * length g + length x) + (2 * length h + length y) ≡ 0
+    no-letters e =
+        let n = commands c in
+        let r : (z : List ℕ) → Passing n z → length (letters z) ≡ 0 =
+        λ z p. none-occur (alphabet c) n (letters z) (commands-range n (letters z) few (letters-commands n z p)) e in
+        omega (arith, r v pv, r w pw, off-length k, off-length l)
+
     pub verdict : cores-joined? (alphabet c) x y ≡ joined? (alphabet c) (letters v) (letters w)
     verdict = cores-verdict (alphabet c) (letters v) (letters w) x y (core-~ k) (core-~ l)
 
@@ -109,22 +117,16 @@ module _ (c : List ℕ) where
           through-all (alphabet c) (λ b. isCommand (commands c) b ≡ true)
           (λ b e. isCommand-undone (commands c) b ∙ e) g h x y t a b i j
 
+      pub through-room : length u ≤ commands c * ((2 * length g + length x) + (2 * length h + length y))
+      through-room =
+          through-length (alphabet c) (commands c) (2 * length g + length x) (2 * length h + length y) g h x y t
+          same-length (commands-range (commands c) x few (off-commands k pv .1)) no-letters (omega arith) (omega arith)
+
       pub through-short : length u ≤ leadInRoom c v w
       through-short =
-          let n = commands c in
-          let r : (z : List ℕ) → Passing n z → All (λ a. (1 ≤ commandOf a) × (commandOf a ≤ n)) (letters z) =
-          λ z p. commands-range n (letters z) few (letters-commands n z p) in
-          let d = through-length (alphabet c) n (length (letters v)) (length (letters w)) g h x y t same-length
-          (commands-range n x few (off-commands k pv .1))
-          (λ e. omega (
-            arith,
-            none-occur (alphabet c) n (letters v) (r v pv) e,
-            none-occur (alphabet c) n (letters w) (r w pw) e,
-          ))
-          (off-length k) (off-length l) in
-          let e : n * (length (letters v) + length (letters w)) ≤ n * (length v + length w) =
-          mul-le-mul-left n (omega (arith, letters-length v, letters-length w)) in
-          omega arith
+          let e : (2 * length g + length x) + (2 * length h + length y) ≤ length v + length w =
+          omega (arith, off-length k, off-length l, letters-length v, letters-length w) in
+          omega (arith, through-room, mul-le-mul-left (commands c) e)
 
       pub through-lead-in : LeadIn c v w (normalForm c u)
       unfolding normalForm

@@ -10,6 +10,7 @@ use Rattle.plan.specs.Letters.{letters, alphabet, normalForm}
 use Rattle.plan.specs.LettersLaws.{Commands}
 use Rattle.engine.specs.Passed.{Passed}
 use Rattle.calls.specs.Loops.{LeadIn, leadInRoom}
+use Rattle.crossing.specs.Stripped.{Stripped}
 use Rattle.leading.specs.declared.Outcome.{Outcome}
 use Rattle.leading.specs.declared.Outcome.the-variants.{Joined, Apart, Unsettled}
 
@@ -19,14 +20,15 @@ pub record Plans (c : List ℕ) (conflicts : List (List ℕ)) (v w : List ℕ) (
   pub second : Passed c conflicts w
   pub many : n ≡ commands c
 
--- rows to work in, for plans of at most so many bytes
-pub record Rooms (most : ℕ) (v w under link cycled row : List ℕ) : Type 0 where
-  pub first : length v ≤ most
-  pub second : length w ≤ most
-  pub unders : (48 * most ≤ length under) × (1024 ≤ length under)
-  pub links : (48 * most ≤ length link) × (1024 ≤ length link)
-  pub aside : 24 * most ≤ length cycled
-  pub rows : 48 * most ≤ length row
+-- with their cores in normal form, x and y, and the letters taken off in front, g and h
+pub record Cores (c : List ℕ) (conflicts : List (List ℕ)) (v w x g y h : List ℕ) (n : ℕ) : Type 0 where
+  pub plans : Plans c conflicts v w n
+  pub first : Stripped c v x g
+  pub second : Stripped c w y h
+
+-- the room that the way from one plan to the other needs, with n commands
+abbrev pub crossRoom : ℕ → List ℕ → List ℕ → List ℕ → List ℕ → ℕ
+crossRoom n x g y h = n * ((2 * length g + length x) + (2 * length h + length y))
 
 -- the plans are joined, and the row now begins with a word, of so many letters, whose normal form is a lead-in
 pub record LeadWord (c v w row : List ℕ) (end : ℕ) : Type 0 where
@@ -47,3 +49,14 @@ pub data Told (c v w area : List ℕ) : Outcome → List ℕ → Type 0 where
   joined : {u : List ℕ} → joined? (alphabet c) (letters v) (letters w) ≡ true → LeadIn c v w u
       → Told c v w area (Joined (length u)) (u ++ drop (length u) area)
   apart : joined? (alphabet c) (letters v) (letters w) ≡ false → Told c v w area Apart area
+
+-- the cores of two plans, with at most so much room for the way and enough in the area for the lead-in
+abbrev pub Crossable : List (List ℕ) → List ℕ → List ℕ → List ℕ → List ℕ → ℕ → ℕ → List ℕ → Type 0
+Crossable conflicts x g y h n most area =
+    (c : List ℕ) × (v : List ℕ) × (w : List ℕ) × Cores c conflicts v w x g y h n × (crossRoom n x g y h ≤ most)
+    × (n * (length v + length w) ≤ length area)
+
+-- for all plans with these cores the verdict and the final area
+abbrev pub Crossed : List (List ℕ) → List ℕ → List ℕ → List ℕ → List ℕ → ℕ → List ℕ → Outcome → List ℕ → Type 0
+Crossed conflicts x g y h n area r after =
+    (c v w : List ℕ) → Cores c conflicts v w x g y h n → Told c v w area r after

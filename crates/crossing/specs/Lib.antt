@@ -1,0 +1,5 @@
+pub mod VerdictLaws
+pub mod Stripped
+pub mod StrippedLaws
+pub mod Join
+pub mod JoinLaws

@@ -1,0 +1,91 @@
+-- The sums fit, and each row is as long as the room tested. Assumes nothing.
+use native.Mathlib.Omega.{arith}
+use Rattle.joining.specs.CoresLaws.{cores-all}
+use borrow.Author.Needs.{needs}
+use Rattle.joining.proofs.cross_cores.Statement.{statement}
+use Rattle.joining.proofs.cross_cores.Tie as tie
+
+mul-need : tie.Need-mul-need
+mul-need c = omega (arith, cores-all (c .before .before .before .before .before .pre .3))
+
+add-need : tie.Need-add-need
+add-need c = omega (arith, cores-all (c .before .before .before .before .before .pre .3))
+
+mul-need-2 : tie.Need-mul-need-2
+mul-need-2 c = omega (arith, cores-all (c .before .before .before .before .before .pre .3))
+
+add-need-2 : tie.Need-add-need-2
+add-need-2 c = omega (arith, cores-all (c .before .before .before .before .before .pre .3))
+
+add-need-3 : tie.Need-add-need-3
+add-need-3 c = omega (arith, cores-all (c .before .before .before .before .before .pre .3))
+
+mul-need-3 : tie.Need-mul-need-3
+mul-need-3 c = search needs
+
+cross-short-requires : tie.Need-cross-short-requires
+cross-short-requires c κs =
+    let (k, v, w, p, r, f) = c .before .before .before .before .before .before .before .pre in
+    (k, v, w, p, c .before .if1 .taken, f)
+
+same-length : tie.Need-same-length
+same-length c = search needs
+
+returns : tie.Need-returns
+returns c = search needs
+
+cross-middle-requires : tie.Need-cross-middle-requires
+cross-middle-requires c κs =
+    let (k, v, w, p, r, f) = c .before .before .before .before .before .before .before .before .pre in
+    (k, v, w, p, c .before .if2 .taken, f)
+
+same-length-2 : tie.Need-same-length-2
+same-length-2 c = search needs
+
+returns-2 : tie.Need-returns-2
+returns-2 c = search needs
+
+cross-wide-requires : tie.Need-cross-wide-requires
+cross-wide-requires c κs =
+    let (k, v, w, p, r, f) = c .before .before .before .before .before .before .before .before .before .pre in
+    (k, v, w, p, c .before .if3 .taken, f)
+
+same-length-3 : tie.Need-same-length-3
+same-length-3 c = search needs
+
+returns-3 : tie.Need-returns-3
+returns-3 c = search needs
+
+cross-long-requires : tie.Need-cross-long-requires
+cross-long-requires c κs =
+    let (k, v, w, p, r, f) = c .before .before .before .before .before .before .before .before .before .pre in
+    (k, v, w, p, omega (arith, r), f)
+
+same-length-4 : tie.Need-same-length-4
+same-length-4 c = search needs
+
+returns-4 : tie.Need-returns-4
+returns-4 c = search needs
+
+pub cross-cores-spec : {M : Type 1} → statement M
+cross-cores-spec =
+    tie.close
+    (tie.spec
+    mul-need
+    add-need
+    mul-need-2
+    add-need-2
+    add-need-3
+    mul-need-3
+    cross-short-requires
+    same-length
+    returns
+    cross-middle-requires
+    same-length-2
+    returns-2
+    cross-wide-requires
+    same-length-3
+    returns-3
+    cross-long-requires
+    same-length-4
+    returns-4)

@@ -1,0 +1,5 @@
+pub mod Pair
+pub mod ApexLaws
+pub mod SofarLaws
+pub mod PlaceLaws
+pub mod CoreLaws
