@@ -5,12 +5,11 @@ use native.Mathlib.Nat.{mul-le-mul-right, mul-add}
 use mathlib.Core.Path.{_≡_, refl, sym, _∙_, ap, subst, subst₂}
 use mathlib.Core.List.{List, [], _++_, append-assoc}
 use lib.ListN.{length, take, drop, length-append, length-take}
-use lib.Seq.{take-at}
-use Rattle.words.specs.TraceLaws.{~-sym, ~-length}
+use Rattle.words.specs.TraceLaws.{~-sym}
 use Rattle.words.specs.Group.{undo}
 use Rattle.words.specs.GroupLaws.{undo-length}
 use Rattle.conjugacy.specs.TurnLaws.{round-~}
-use Rattle.conjugacy.specs.CoreLaws.{core-round, core-length}
+use Rattle.conjugacy.specs.CoreLaws.{core-round}
 use Rattle.conjugacy.specs.Part.{apexes}
 use Rattle.conjugacy.specs.LeadIn.{parts-lead}
 use Rattle.catalogue.specs.Catalogue.{commands}
@@ -27,8 +26,6 @@ use Rattle.leading.specs.declared.Outcome.the-variants.{Joined, Apart, Unsettle
 use Rattle.leading.specs.Lead.{Stops}
 use Rattle.pairing.specs.Pair.{Coreable, CoresLed, CoresLead}
 use Rattle.leading.specs.TurnLaws.{undone-undo}
-use Rattle.calls.specs.Calls.{coreForm}
-use Rattle.calls.specs.Loops.{leadInRoom}
 use Rattle.engine.specs.Passed.{Passed}
 use Rattle.crossing.specs.VerdictLaws.{through}
 use Rattle.crossing.specs.Stripped.{Stripped}

@@ -2,12 +2,10 @@
 // clears little.
 
 use longform::normal_form;
-ghost use Prim.Native.Nat.{ℕ, _≤_};
+ghost use Prim.Native.Nat.{ℕ};
 ghost use mathlib.Core.Path.{_≡_};
 ghost use mathlib.Core.List.{List};
 ghost use lib.ListN.{length};
-ghost use Rattle.reduction.specs.Reducing.{Given};
-ghost use Rattle.longform.specs.Form.{Written};
 ghost use Rattle.forming.specs.Forming.{Formable, Formed};
 
 // Links for a word of at most 1,024 letters.
@@ -30,6 +28,8 @@ fn long_links() -> [u16; 50176]
 {
     [0; 50176]
 }
+
+// The normal form of a word, with links for so many letters.
 
 fn form_short(word: &[u8], conflicts: &[[u16; 24]; 24], area: &mut [u8]) -> usize
     requires { ⌜ ((c : List ℕ) × Formable 1024 c (now conflicts) (now word) (now area)) ⌝ }

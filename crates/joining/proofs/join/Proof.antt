@@ -7,7 +7,8 @@ use borrow.Author.Needs.{needs}
 use Rattle.coring.specs.Coring.{CoreOf}
 use Rattle.coring.specs.CoringLaws.{core-of}
 use Rattle.crossing.specs.Join.{Plans, Cores}
-use Rattle.joining.specs.CoresLaws.{stripped, form-count, form-fits, off-count, off-fits, cores-room}
+use Rattle.spanning.specs.SpanLaws.{cores-room}
+use Rattle.joining.specs.CoresLaws.{stripped, form-count, form-fits, off-count, off-fits}
 use Rattle.joining.proofs.join.Statement.{statement}
 use Rattle.joining.proofs.join.Tie as tie
 
@@ -97,8 +98,8 @@ array-share-prefix-x c =
     let o = c .before .before in
     form-fits (one o (start o .pre .0) (start o .pre .1))
 
-slice-aggregate-cross-cores : tie.Need-slice-aggregate-cross-cores
-slice-aggregate-cross-cores c =
+slice-aggregate-span : tie.Need-slice-aggregate-span
+slice-aggregate-span c =
     let o = c .before .before .before in
     form-count (one o (start o .pre .0) (start o .pre .1))
 
@@ -107,8 +108,8 @@ array-share-prefix-g c =
     let o = c .before .before .before in
     off-fits (one o (start o .pre .0) (start o .pre .1))
 
-slice-aggregate-cross-cores-2 : tie.Need-slice-aggregate-cross-cores-2
-slice-aggregate-cross-cores-2 c =
+slice-aggregate-span-2 : tie.Need-slice-aggregate-span-2
+slice-aggregate-span-2 c =
     let o = c .before .before .before .before in
     off-count (one o (start o .pre .0) (start o .pre .1))
 
@@ -117,8 +118,8 @@ array-share-prefix-y c =
     let o = c .before .before .before .before in
     form-fits (two o (start o .pre .0) (start o .pre .1))
 
-slice-aggregate-cross-cores-3 : tie.Need-slice-aggregate-cross-cores-3
-slice-aggregate-cross-cores-3 c =
+slice-aggregate-span-3 : tie.Need-slice-aggregate-span-3
+slice-aggregate-span-3 c =
     let o = c .before .before .before .before .before in
     form-count (two o (start o .pre .0) (start o .pre .1))
 
@@ -127,13 +128,13 @@ array-share-prefix-h c =
     let o = c .before .before .before .before .before in
     off-fits (two o (start o .pre .0) (start o .pre .1))
 
-slice-aggregate-cross-cores-4 : tie.Need-slice-aggregate-cross-cores-4
-slice-aggregate-cross-cores-4 c =
+slice-aggregate-span-4 : tie.Need-slice-aggregate-span-4
+slice-aggregate-span-4 c =
     let o = c .before .before .before .before .before .before in
     off-count (two o (start o .pre .0) (start o .pre .1))
 
-cross-cores-requires : tie.Need-cross-cores-requires
-cross-cores-requires c κs =
+span-requires : tie.Need-span-requires
+span-requires c κs =
     let o = c .before .before .before .before .before .before .before in
     let (k, p, f) = start o .pre in
     (k, _, _, cores o k p, cores-room (cores o k p), f)
@@ -144,7 +145,7 @@ same-length c = search needs
 returns : tie.Need-returns
 returns c =
     let o = c .before .before .before .before .before .before .before .before .before .before in
-    λ k p. c .before .before .cross-cores .ensures k _ _ (cores o k p)
+    λ k p. c .before .before .span .ensures k _ _ (cores o k p)
 
 pub join-spec : {M : Type 1} → statement M
 join-spec =
@@ -161,13 +162,13 @@ join-spec =
     slice-aggregate-form-of-4
     form-of-requires-2
     array-share-prefix-x
-    slice-aggregate-cross-cores
+    slice-aggregate-span
     array-share-prefix-g
-    slice-aggregate-cross-cores-2
+    slice-aggregate-span-2
     array-share-prefix-y
-    slice-aggregate-cross-cores-3
+    slice-aggregate-span-3
     array-share-prefix-h
-    slice-aggregate-cross-cores-4
-    cross-cores-requires
+    slice-aggregate-span-4
+    span-requires
     same-length
     returns)

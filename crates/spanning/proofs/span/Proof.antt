@@ -1,9 +1,9 @@
 -- The sums fit, and each row is as long as the room tested. Assumes nothing.
 use native.Mathlib.Omega.{arith}
-use Rattle.joining.specs.CoresLaws.{cores-all}
+use Rattle.spanning.specs.SpanLaws.{cores-all}
 use borrow.Author.Needs.{needs}
-use Rattle.joining.proofs.cross_cores.Statement.{statement}
-use Rattle.joining.proofs.cross_cores.Tie as tie
+use Rattle.spanning.proofs.span.Statement.{statement}
+use Rattle.spanning.proofs.span.Tie as tie
 
 mul-need : tie.Need-mul-need
 mul-need c = omega (arith, cores-all (c .before .before .before .before .before .pre .3))
@@ -23,8 +23,8 @@ add-need-3 c = omega (arith, cores-all (c .before .before .before .before .befor
 mul-need-3 : tie.Need-mul-need-3
 mul-need-3 c = search needs
 
-cross-short-requires : tie.Need-cross-short-requires
-cross-short-requires c κs =
+span-short-requires : tie.Need-span-short-requires
+span-short-requires c κs =
     let (k, v, w, p, r, f) = c .before .before .before .before .before .before .before .pre in
     (k, v, w, p, c .before .if1 .taken, f)
 
@@ -34,8 +34,8 @@ same-length c = search needs
 returns : tie.Need-returns
 returns c = search needs
 
-cross-middle-requires : tie.Need-cross-middle-requires
-cross-middle-requires c κs =
+span-middle-requires : tie.Need-span-middle-requires
+span-middle-requires c κs =
     let (k, v, w, p, r, f) = c .before .before .before .before .before .before .before .before .pre in
     (k, v, w, p, c .before .if2 .taken, f)
 
@@ -45,8 +45,8 @@ same-length-2 c = search needs
 returns-2 : tie.Need-returns-2
 returns-2 c = search needs
 
-cross-wide-requires : tie.Need-cross-wide-requires
-cross-wide-requires c κs =
+span-wide-requires : tie.Need-span-wide-requires
+span-wide-requires c κs =
     let (k, v, w, p, r, f) = c .before .before .before .before .before .before .before .before .before .pre in
     (k, v, w, p, c .before .if3 .taken, f)
 
@@ -56,8 +56,8 @@ same-length-3 c = search needs
 returns-3 : tie.Need-returns-3
 returns-3 c = search needs
 
-cross-long-requires : tie.Need-cross-long-requires
-cross-long-requires c κs =
+span-long-requires : tie.Need-span-long-requires
+span-long-requires c κs =
     let (k, v, w, p, r, f) = c .before .before .before .before .before .before .before .before .before .pre in
     (k, v, w, p, omega (arith, r), f)
 
@@ -67,8 +67,8 @@ same-length-4 c = search needs
 returns-4 : tie.Need-returns-4
 returns-4 c = search needs
 
-pub cross-cores-spec : {M : Type 1} → statement M
-cross-cores-spec =
+pub span-spec : {M : Type 1} → statement M
+span-spec =
     tie.close
     (tie.spec
     mul-need
@@ -77,15 +77,15 @@ cross-cores-spec =
     add-need-2
     add-need-3
     mul-need-3
-    cross-short-requires
+    span-short-requires
     same-length
     returns
-    cross-middle-requires
+    span-middle-requires
     same-length-2
     returns-2
-    cross-wide-requires
+    span-wide-requires
     same-length-3
     returns-3
-    cross-long-requires
+    span-long-requires
     same-length-4
     returns-4)

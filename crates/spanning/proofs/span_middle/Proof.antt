@@ -1,11 +1,11 @@
 -- The row is as long as the way may be. Assumes nothing.
 use native.Mathlib.Omega.{arith}
 use borrow.Author.Needs.{needs}
-use Rattle.joining.proofs.cross_wide.Statement.{statement}
-use Rattle.joining.proofs.cross_wide.Tie as tie
+use Rattle.spanning.proofs.span_middle.Statement.{statement}
+use Rattle.spanning.proofs.span_middle.Tie as tie
 
-wide-row-requires : tie.Need-wide-row-requires
-wide-row-requires c κs = search needs
+middle-row-requires : tie.Need-middle-row-requires
+middle-row-requires c κs = search needs
 
 slice-aggregate-cross : tie.Need-slice-aggregate-cross
 slice-aggregate-cross c = search needs
@@ -13,7 +13,7 @@ slice-aggregate-cross c = search needs
 cross-requires : tie.Need-cross-requires
 cross-requires c κs =
     let (k, v, w, p, r, f) = c .before .before .before .before .before .before .before .before .pre in
-    (k, v, w, p, omega (arith, r, c .before .before .wide-row .ensures), f)
+    (k, v, w, p, omega (arith, r, c .before .before .middle-row .ensures), f)
 
 same-length : tie.Need-same-length
 same-length c = search needs
@@ -21,6 +21,7 @@ same-length c = search needs
 returns : tie.Need-returns
 returns c = search needs
 
-pub cross-wide-spec : {M : Type 1} → statement M
-cross-wide-spec =
-    tie.close (tie.spec wide-row-requires slice-aggregate-cross cross-requires same-length returns)
+pub span-middle-spec : {M : Type 1} → statement M
+span-middle-spec =
+    tie.close
+    (tie.spec middle-row-requires slice-aggregate-cross cross-requires same-length returns)
