@@ -12,7 +12,7 @@ use Rattle.plan.specs.Letters.{normalForm}
 use Rattle.plan.specs.LettersLaws.{letters-length}
 use Rattle.reduction.specs.Reducing.{Given}
 use Rattle.longform.specs.Form.{Written}
-use Rattle.forming.specs.Forming.{Formable}
+use Rattle.wordform.specs.Forming.{Formable}
 use Rattle.row.specs.Row.{Appended}
 use Rattle.row.specs.RowLaws.{appended-length, appended-take}
 use Rattle.checking.specs.Checking.{Joined, Factors, Checkable, CheckedIn}

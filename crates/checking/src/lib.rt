@@ -1,7 +1,7 @@
 // The lead-in check of plans that have passed their checks: the normal forms of v·u and u·w, and whether they are the
 // same.
 
-use forming::form;
+use wordform::form;
 use row::append;
 ghost use Prim.Native.Nat.{ℕ, _+_, _≤_};
 ghost use mathlib.Core.Path.{_≡_};

@@ -17,7 +17,7 @@ use Rattle.plan.specs.Letters.{letters, alphabet, undoneBefore, normalForm}
 use Rattle.plan.specs.LettersLaws.{letters-length, commands-passing}
 use Rattle.reduction.specs.Reducing.{Given}
 use Rattle.longform.specs.Form.{Written}
-use Rattle.forming.specs.Forming.{Formable}
+use Rattle.wordform.specs.Forming.{Formable}
 use Rattle.row.specs.Row.{Appended}
 use Rattle.row.specs.RowLaws.{appended-take, appended-length, undone-length}
 use Rattle.ringing.specs.Ring.{Cyclic}

@@ -1,6 +1,6 @@
 // From one plan to another across their cores, in a row that is lent: the verdict, and the lead-in in normal form.
 
-use forming::form;
+use wordform::form;
 use leading::Outcome;
 use pairing::join_cores;
 use row::append;

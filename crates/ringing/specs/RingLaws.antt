@@ -39,7 +39,7 @@ use Rattle.settle.specs.declared.Settled.{Settled}
 use Rattle.settle.specs.declared.Settled.the-variants.{Done, Unsettled}
 use Rattle.reduction.specs.Reducing.{Given}
 use Rattle.longform.specs.Form.{Written}
-use Rattle.forming.specs.Forming.{Formable}
+use Rattle.wordform.specs.Forming.{Formable}
 use Rattle.ringing.specs.PartLaws.{part-round, turns-all}
 use Rattle.ringing.specs.Ring.{Cyclic, Ringable, Rung}
 

@@ -1,6 +1,6 @@
 // The ring of one part of a core: the part is settled on its apex, and the settled word put in normal form.
 
-use forming::form;
+use wordform::form;
 use parts::part;
 use settle::Settled;
 use settle::settle;

@@ -6,7 +6,7 @@ ghost use Prim.Native.Nat.{ℕ};
 ghost use mathlib.Core.Path.{_≡_};
 ghost use mathlib.Core.List.{List};
 ghost use lib.ListN.{length};
-ghost use Rattle.forming.specs.Forming.{Formable, Formed};
+ghost use Rattle.wordform.specs.Forming.{Formable, Formed};
 
 // Links for a word of at most 1,024 letters.
 fn short_links() -> [u16; 1024]

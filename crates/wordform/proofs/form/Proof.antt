@@ -1,8 +1,8 @@
--- `forming::form` meets its contract: each branch has links for words of the length tested. Assumes nothing.
+-- `wordform::form` meets its contract: each branch has links for words of the length tested. Assumes nothing.
 use borrow.Author.Needs.{needs}
-use Rattle.forming.specs.Forming.{formable-within}
-use Rattle.forming.proofs.form.Statement.{statement}
-use Rattle.forming.proofs.form.Tie as tie
+use Rattle.wordform.specs.Forming.{formable-within}
+use Rattle.wordform.proofs.form.Statement.{statement}
+use Rattle.wordform.proofs.form.Tie as tie
 
 form-short-requires : tie.Need-form-short-requires
 form-short-requires c κs =

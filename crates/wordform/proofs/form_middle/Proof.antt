@@ -1,8 +1,8 @@
--- `forming::form_middle` meets its contract: the links are as many as the word may have letters. Assumes nothing.
+-- `wordform::form_middle` meets its contract: the links are as many as the word may have letters. Assumes nothing.
 use borrow.Author.Needs.{needs}
-use Rattle.forming.specs.Forming.{formable-room}
-use Rattle.forming.proofs.form_middle.Statement.{statement}
-use Rattle.forming.proofs.form_middle.Tie as tie
+use Rattle.wordform.specs.Forming.{formable-room}
+use Rattle.wordform.proofs.form_middle.Statement.{statement}
+use Rattle.wordform.proofs.form_middle.Tie as tie
 
 middle-links-requires : tie.Need-middle-links-requires
 middle-links-requires c κs = search needs
