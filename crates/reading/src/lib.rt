@@ -89,7 +89,8 @@ fn next(rows: &[[u8; 1024]; 24], heights: &[u16; 24], at: &[u16; 24], start: usi
 }
 
 // Reads off what is left above the bottoms: each time the lowest bead of the first row that is ready. A letter moves
-// only the rows that conflict with its own, so those below the first of these stay as they were: not ready.
+// only the rows that conflict with its own, so those below the first of these stay as they were: not ready. The search
+// over all rows has two calls, so that it is not inlined: where it was, the rows by value of `read_off` were copied.
 fn read(
     rows: &[[u8; 1024]; 24],
     heights: &[u16; 24],
@@ -107,7 +108,7 @@ fn read(
 {
     let starts = starts(conflicts);
     let mut l = 0;
-    let mut k = ready_from(rows, heights, at, 0);
+    let mut k = ready(rows, heights, at);
     while k < 24 {
         area[l] = rows[k][at[k] as usize];
         l += 1;

@@ -14,7 +14,6 @@ use Rattle.reading.specs.ReadLaws.{
   written-room,
   written-passed,
 }
-use Rattle.reading.specs.ReadyLaws.{passed-start}
 use Rattle.reading.proofs.read.Statement.{statement}
 use Rattle.reading.proofs.read.Tie as tie
 
@@ -38,11 +37,11 @@ fits c =
 starts-requires : tie.Need-starts-requires Inv-loop μ-loop
 starts-requires c κs = let (t, x, r) = c .before .pre in (t, r .table)
 
-ready-from-requires : tie.Need-ready-from-requires Inv-loop μ-loop
-ready-from-requires c κs = (c .before .before .before .pre .2 .left .room, passed-start _ _ _)
+ready-requires : tie.Need-ready-requires Inv-loop μ-loop
+ready-requires c κs = c .before .before .before .pre .2 .left .room
 
 loop-holds : tie.Need-loop-holds Inv-loop μ-loop
-loop-holds c = written-start (c .ready-from .ensures)
+loop-holds c = written-start (c .ready .ensures)
 
 mul-area : tie.Need-mul-area Inv-loop μ-loop
 mul-area c = omega arith
@@ -126,7 +125,7 @@ read-spec =
     Inv-loop
     μ-loop
     starts-requires
-    ready-from-requires
+    ready-requires
     loop-holds
     mul-area
     element-copy-out-area
