@@ -1,8 +1,8 @@
 // The lead-in check of plans that have passed their checks: the normal forms of v·u and u·w, and whether they are the
 // same.
 
-use wordform::form;
 use row::append;
+use wordform::form;
 ghost use Prim.Native.Nat.{ℕ, _+_, _≤_};
 ghost use mathlib.Core.Path.{_≡_};
 ghost use mathlib.Core.Bool.{true};

@@ -1,10 +1,10 @@
 // From one plan to another across their cores, in a row that is lent: the verdict, and the lead-in in normal form.
 
-use wordform::form;
 use leading::Outcome;
 use pairing::join_cores;
 use row::append;
 use row::append_undone;
+use wordform::form;
 ghost use Prim.Native.Nat.{ℕ, _≤_};
 ghost use mathlib.Core.List.{List};
 ghost use lib.ListN.{length};

@@ -1,9 +1,9 @@
 // The ring of one part of a core: the part is settled on its apex, and the settled word put in normal form.
 
-use wordform::form;
 use parts::part;
 use settle::Settled;
 use settle::settle;
+use wordform::form;
 ghost use Prim.Native.Nat.{ℕ};
 ghost use mathlib.Core.Path.{_≡_};
 ghost use mathlib.Core.List.{List};

@@ -1,14 +1,14 @@
--- `wordform::form_short` meets its contract: the links are as many as the word may have letters. Assumes nothing.
+-- `wordform::form_50176` meets its contract: the links are as many as the word may have letters. Assumes nothing.
 use borrow.Author.Needs.{needs}
 use Rattle.wordform.specs.Forming.{formable-room}
-use Rattle.wordform.proofs.form_short.Statement.{statement}
-use Rattle.wordform.proofs.form_short.Tie as tie
+use Rattle.wordform.proofs.form_50176.Statement.{statement}
+use Rattle.wordform.proofs.form_50176.Tie as tie
 
-short-links-requires : tie.Need-short-links-requires
-short-links-requires c κs = search needs
+links-50176-requires : tie.Need-links-50176-requires
+links-50176-requires c κs = search needs
 
-short-links-requires-2 : tie.Need-short-links-requires-2
-short-links-requires-2 c κs = search needs
+links-50176-requires-2 : tie.Need-links-50176-requires-2
+links-50176-requires-2 c κs = search needs
 
 slice-aggregate-normal-form : tie.Need-slice-aggregate-normal-form
 slice-aggregate-normal-form c = search needs
@@ -20,7 +20,7 @@ normal-form-requires : tie.Need-normal-form-requires
 normal-form-requires c κs =
     let l = c .before .before .before in
     let (k, f) = l .before .before .before .before .pre in
-    (k, f .given, formable-room f (l .before .short-links .ensures) (l .short-links2 .ensures))
+    (k, f .given, formable-room f (l .before .links-50176 .ensures) (l .links-501762 .ensures))
 
 same-length : tie.Need-same-length
 same-length c = search needs
@@ -28,12 +28,12 @@ same-length c = search needs
 returns : tie.Need-returns
 returns c = search needs
 
-pub form-short-spec : {M : Type 1} → statement M
-form-short-spec =
+pub form-50176-spec : {M : Type 1} → statement M
+form-50176-spec =
     tie.close
     (tie.spec
-    short-links-requires
-    short-links-requires-2
+    links-50176-requires
+    links-50176-requires-2
     slice-aggregate-normal-form
     slice-aggregate-normal-form-2
     normal-form-requires

@@ -1,14 +1,14 @@
--- `wordform::form_long` meets its contract: the links are as many as the word may have letters. Assumes nothing.
+-- `wordform::form_8192` meets its contract: the links are as many as the word may have letters. Assumes nothing.
 use borrow.Author.Needs.{needs}
 use Rattle.wordform.specs.Forming.{formable-room}
-use Rattle.wordform.proofs.form_long.Statement.{statement}
-use Rattle.wordform.proofs.form_long.Tie as tie
+use Rattle.wordform.proofs.form_8192.Statement.{statement}
+use Rattle.wordform.proofs.form_8192.Tie as tie
 
-long-links-requires : tie.Need-long-links-requires
-long-links-requires c κs = search needs
+links-8192-requires : tie.Need-links-8192-requires
+links-8192-requires c κs = search needs
 
-long-links-requires-2 : tie.Need-long-links-requires-2
-long-links-requires-2 c κs = search needs
+links-8192-requires-2 : tie.Need-links-8192-requires-2
+links-8192-requires-2 c κs = search needs
 
 slice-aggregate-normal-form : tie.Need-slice-aggregate-normal-form
 slice-aggregate-normal-form c = search needs
@@ -20,7 +20,7 @@ normal-form-requires : tie.Need-normal-form-requires
 normal-form-requires c κs =
     let l = c .before .before .before in
     let (k, f) = l .before .before .before .before .pre in
-    (k, f .given, formable-room f (l .before .long-links .ensures) (l .long-links2 .ensures))
+    (k, f .given, formable-room f (l .before .links-8192 .ensures) (l .links-81922 .ensures))
 
 same-length : tie.Need-same-length
 same-length c = search needs
@@ -28,12 +28,12 @@ same-length c = search needs
 returns : tie.Need-returns
 returns c = search needs
 
-pub form-long-spec : {M : Type 1} → statement M
-form-long-spec =
+pub form-8192-spec : {M : Type 1} → statement M
+form-8192-spec =
     tie.close
     (tie.spec
-    long-links-requires
-    long-links-requires-2
+    links-8192-requires
+    links-8192-requires-2
     slice-aggregate-normal-form
     slice-aggregate-normal-form-2
     normal-form-requires
