@@ -2,18 +2,17 @@
 -- left.
 use Prim.Native.Nat.{ℕ, _+_, _-_, _<_, _≤_}
 use mathlib.Core.Path.{_≡_, refl, sym, _∙_, ap}
-use mathlib.Core.List.{List, [], _∷_, _++_, append-assoc, append-nil}
+use mathlib.Core.List.{List, [], _∷_, _++_, append-nil}
 use native.Mathlib.Omega.{arith}
 use native.Mathlib.Decide.{decLt}
-use native.Mathlib.Numerals.{add-one}
 use lib.ListN.{length, getD, take, drop, set, length-set, take-append-drop}
-use lib.Seq.{length-take-le, take-suc-set, drop-set-lt, drop-drop}
-use Rattle.words.specs.Alphabet.{Alphabet, Word}
+use lib.Seq.{length-take-le}
 use Rattle.words.specs.All.{all-pick}
-use Rattle.words.specs.Trace.{Pick, here, First}
-use Rattle.words.specs.TraceLaws.{~-refl, pick-length}
+use Rattle.words.specs.Trace.{Pick, First}
+use Rattle.words.specs.TraceLaws.{first-none, pick-length}
 use Rattle.words.specs.Normal.{lex}
-use Rattle.words.specs.NormalLaws.{Least, sort, sorts-lex, lex-sorts}
+use Rattle.words.specs.NormalLaws.{Least, lex-pick}
+use Rattle.words.specs.WritingLaws.{take-more, drop-more}
 use Rattle.catalogue.specs.Conflict.{Conflicts}
 use Rattle.plan.specs.Byte.{commandOf}
 use Rattle.plan.specs.Letters.{alphabet}
@@ -22,11 +21,6 @@ use Rattle.runs.specs.Runs.{Stacks}
 use Rattle.runs.specs.Moves.{Cuttable, Cut}
 use Rattle.runs.specs.StacksLaws.{Lined, stacks-topped, stacks-first, first-stacks, stacks-cuttable, stacks-cut}
 use Rattle.longform.specs.Reading.{FirstReady, Readable, ReadOff}
-
--- a word in which nothing can come first is empty
-first-none : (Γ : Alphabet) (w : Word Γ) → ((d : Γ .Letter) → First Γ d w → ⊥) → w ≡ []
-first-none Γ [] f = refl
-first-none Γ (a ∷ w) f = absurd (f a (w, here))
 
 module _ {c word under link tops blanks y : List ℕ} (s : Stacks c word under link tops blanks 0 y) {k : ℕ}
     (f : FirstReady blanks k) where
@@ -47,23 +41,6 @@ module _ {c word under link tops blanks y : List ℕ} (s : Stacks c word under l
   ready-none h = first-none (alphabet c) y (λ d o.
       let t : Lettered d = all-pick (alphabet c) Lettered (o .1) (s .letters) .0 in
       omega (arith, ready-least d o, t .1))
-
--- the smallest letter that can come first, then the rest in order
-lex-pick : (c : List ℕ) {b : ℕ} {y r : List ℕ} → Pick (alphabet c) b y r → Least (alphabet c) b y
-    → lex (alphabet c) (length y) y ≡ b ∷ lex (alphabet c) (length r) r
-lex-pick c {y = y} {r = r} p m =
-    sorts-lex (alphabet c) (~-refl (alphabet c) y) (sort p m (lex-sorts (alphabet c) (length r) r refl))
-
--- one more letter stands at l
-take-more : (area s : List ℕ) (l b : ℕ) → l < length area
-    → take l area ++ b ∷ s ≡ take (l + 1) (set area l b) ++ s
-take-more area s l b h = rw (add-one, take-suc-set area l b h, append-assoc)
-
-drop-more : (area before : List ℕ) (l b : ℕ) → drop l area ≡ drop l before
-    → drop (l + 1) (set area l b) ≡ drop (l + 1) before
-drop-more area before l b k =
-    drop-set-lt (l + 1) area l b (omega arith)
-    ∙ sym (drop-drop 1 l area) ∙ ap (drop 1) k ∙ drop-drop 1 l before
 
 pub record Going (c word under link x before tops blanks area : List ℕ) (l : ℕ) (y : List ℕ) : Type 0 where
   pub left : Stacks c word under link tops blanks 0 y
@@ -115,7 +92,7 @@ module _ {c word under link x before tops blanks area : List ℕ} {l : ℕ} {y :
           record {
             left = stacks-cut (g .left) lined (f .found h) p m u;
             fits = omega (arith, g .fits, pick-length (alphabet c) p, length-set area l b);
-            taken = g .taken ∙ ap (λ (s : List ℕ). take l area ++ s) (lex-pick c p q)
+            taken = g .taken ∙ ap (λ (s : List ℕ). take l area ++ s) (lex-pick (alphabet c) p q)
                 ∙ take-more area (lex (alphabet c) (length r) r) l b going-fits;
             kept = drop-more area before l b (g .kept);
           },

@@ -2,12 +2,11 @@
 -- word y that is left.
 use Prim.Native.Nat.{ℕ, _+_, _-_, _*_, _<_, _≤_}
 use mathlib.Core.Path.{_≡_, refl, sym, _∙_, ap, subst}
-use mathlib.Core.List.{List, [], _∷_, _++_, append-assoc, append-nil}
+use mathlib.Core.List.{List, [], _∷_, _++_, append-nil}
 use native.Mathlib.Omega.{arith}
-use native.Mathlib.Numerals.{add-one}
 use lib.ListN.{length, getD, take, drop, set, length-set}
-use lib.Seq.{take-suc-set, drop-set-lt, drop-drop}
 use Rattle.words.specs.TraceLaws.{~-refl}
+use Rattle.words.specs.WritingLaws.{take-more, drop-more}
 use Rattle.conjugacy.specs.Core.{Cores, bare}
 use Rattle.conjugacy.specs.CoreLaws.{peels-length, peels-cores}
 use Rattle.catalogue.specs.Conflict.{Conflicts}
@@ -23,16 +22,6 @@ pub record Going (c : List ℕ) (rows : List (List ℕ)) (x before heights at le
   pub count : 2 * l + length y ≡ length x
   pub cores : (g z : List ℕ) → Cores (alphabet c) y g z → Cores (alphabet c) x (take l lead ++ g) z
   pub kept : drop l lead ≡ drop l before
-
--- one more letter stands at l
-take-more : (lead g : List ℕ) (l b : ℕ) → l < length lead → take l lead ++ b ∷ g ≡ take (l + 1) (set lead l b) ++ g
-take-more lead g l b h = rw (add-one, take-suc-set lead l b h, append-assoc)
-
-drop-more : (lead before : List ℕ) (l b : ℕ) → drop l lead ≡ drop l before
-    → drop (l + 1) (set lead l b) ≡ drop (l + 1) before
-drop-more lead before l b k =
-    drop-set-lt (l + 1) lead l b (omega arith)
-    ∙ sym (drop-drop 1 l lead) ∙ ap (drop 1) k ∙ drop-drop 1 l before
 
 module _ {c : List ℕ} {rows : List (List ℕ)} {x before heights at lead : List ℕ} {l : ℕ} {y : List ℕ}
     (g : Going c rows x before heights at lead l y) where

@@ -10,8 +10,8 @@ use lib.ListN.{length, getD, take, drop, length-append}
 use lib.Dec.{eqb}
 use lib.Seq.{slice, slice-cons, length-slice, drop-drop, drop-at}
 use Rattle.words.specs.All.{All, all-pick}
-use Rattle.words.specs.Alphabet.{Alphabet, Word}
-use Rattle.words.specs.Trace.{Pick, here, First}
+use Rattle.words.specs.Trace.{Pick, First}
+use Rattle.words.specs.TraceLaws.{first-none}
 use Rattle.words.specs.Stack.{mark, mark-step, proj}
 use Rattle.words.specs.StackLaws.{proj-pick, proj-first, proj-front}
 use Rattle.catalogue.specs.Conflict.{conflict, bit, Conflicts}
@@ -32,11 +32,6 @@ mark-count c k b = go (conflict c k (commandOf b)) (eqb (commandOf b) k)
     go false o = refl
     go true false = refl
     go true true = refl
-
--- a word in which nothing can come first is empty
-first-none : (Γ : Alphabet) (w : Word Γ) → ((d : Γ .Letter) → First Γ d w → ⊥) → w ≡ []
-first-none Γ [] f = refl
-first-none Γ (a ∷ w) f = absurd (f a (w, here))
 
 module _ {rows : List (List ℕ)} {heights c at y : List ℕ} (e : Left rows heights c at y) where
   left-wide : (i : ℕ) → i < 24 → getD heights i 0 ≤ length (getD rows i [])

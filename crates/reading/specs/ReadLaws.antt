@@ -1,15 +1,15 @@
 -- The loop that reads a piling off: l letters are written, and the beads left are the stacks of a word y.
 use Prim.Native.Nat.{ℕ, _+_, _<_, _≤_}
 use mathlib.Core.Path.{_≡_, refl, sym, _∙_, ap, subst}
-use mathlib.Core.List.{List, [], _∷_, _++_, append-assoc, append-nil}
+use mathlib.Core.List.{List, [], _∷_, _++_, append-nil}
 use native.Mathlib.Omega.{arith}
-use native.Mathlib.Numerals.{add-one}
 use lib.ListN.{length, getD, take, drop, set, length-set, take-append-drop}
-use lib.Seq.{length-take-le, take-suc-set, drop-set-lt, drop-drop}
+use lib.Seq.{length-take-le}
 use Rattle.words.specs.Normal.{lex}
-use Rattle.words.specs.NormalLaws.{sort, sorts-lex, lex-sorts}
+use Rattle.words.specs.NormalLaws.{lex-pick}
+use Rattle.words.specs.WritingLaws.{take-more, drop-more}
 use Rattle.words.specs.Trace.{Pick, First}
-use Rattle.words.specs.TraceLaws.{~-refl, pick-length}
+use Rattle.words.specs.TraceLaws.{pick-length}
 use Rattle.catalogue.specs.Conflict.{Conflicts}
 use Rattle.beads.specs.Heights.{Both, Changed}
 use Rattle.plan.specs.Byte.{commandOf}
@@ -25,24 +25,6 @@ pub record Going (rows : List (List ℕ)) (heights c x before at area : List ℕ
   pub fits : l + length y ≤ length area
   pub taken : lex (alphabet c) (length x) x ≡ take l area ++ lex (alphabet c) (length y) y
   pub kept : drop l area ≡ drop l before
-
--- the smallest letter that can come first, then the rest in order
-lex-pick : (c : List ℕ) {b : ℕ} {y r : List ℕ} → Pick (alphabet c) b y r
-    → ((d : ℕ) → First (alphabet c) d y → commandOf b ≤ commandOf d)
-    → lex (alphabet c) (length y) y ≡ b ∷ lex (alphabet c) (length r) r
-lex-pick c {y = y} {r = r} p m =
-    sorts-lex (alphabet c) (~-refl (alphabet c) y) (sort p m (lex-sorts (alphabet c) (length r) r refl))
-
--- one more letter stands at l
-take-write : (area s : List ℕ) (l b : ℕ) → l < length area
-    → take l area ++ b ∷ s ≡ take (l + 1) (set area l b) ++ s
-take-write area s l b h = rw (add-one, take-suc-set area l b h, append-assoc)
-
-drop-write : (area before : List ℕ) (l b : ℕ) → drop l area ≡ drop l before
-    → drop (l + 1) (set area l b) ≡ drop (l + 1) before
-drop-write area before l b k =
-    drop-set-lt (l + 1) area l b (omega arith)
-    ∙ sym (drop-drop 1 l area) ∙ ap (drop 1) k ∙ drop-drop 1 l before
 
 module _ {rows : List (List ℕ)} {heights c x before at area : List ℕ} {l : ℕ} {y : List ℕ}
     (g : Going rows heights c x before at area l y) where
@@ -82,9 +64,9 @@ module _ {rows : List (List ℕ)} {heights c x before at area : List ℕ} {l : �
             fits = omega (arith, g .fits, pick-length (alphabet c) p, length-set area l (lowest rows at k));
             taken =
                 g .taken
-                ∙ ap (λ s. take l area ++ s) (lex-pick c p least)
-                ∙ take-write area (lex (alphabet c) (length r) r) l (lowest rows at k) going-fits;
-            kept = drop-write area before l (lowest rows at k) (g .kept);
+                ∙ ap (λ s. take l area ++ s) (lex-pick (alphabet c) p least)
+                ∙ take-more area (lex (alphabet c) (length r) r) l (lowest rows at k) going-fits;
+            kept = drop-more area before l (lowest rows at k) (g .kept);
           },
         )
 

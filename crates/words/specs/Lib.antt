@@ -13,3 +13,4 @@ pub mod ReduceLaws
 pub mod NormalLaws
 pub mod StackLaws
 pub mod LetterLaws
+pub mod WritingLaws

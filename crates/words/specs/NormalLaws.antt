@@ -16,7 +16,7 @@ use Rattle.words.specs.All.{All, all-mem}
 use Rattle.words.specs.Alphabet.{Alphabet, Word}
 use Rattle.words.specs.Trace as Trace
 use Rattle.words.specs.Trace.{Pick, here, there, First, done, cons, next}
-use Rattle.words.specs.TraceLaws.{~-sym, ~-length, first-along, cons-cancel, first-eq}
+use Rattle.words.specs.TraceLaws.{~-refl, ~-sym, ~-length, first-along, cons-cancel, first-eq}
 use Rattle.words.specs.TraceLaws.{pick-front, pick-after, pick-length, Splits, early, late, pick-split}
 use Rattle.words.specs.Normal.{Ordered, Smaller, at, on, nf}
 use Rattle.words.specs.Normal.{meets, meets-step, firsts, firsts-step, least, least-step, lex, lex-step, rest}
@@ -246,6 +246,11 @@ module _ (Γ : Alphabet) where
   pub sorts-lex : {u v x : Word Γ} → u ~ v → Sorts v x → lex Γ (length u) u ≡ x
   sorts-lex {u} {v} {x} e s =
       ordered-unique (lex Γ (length u) u) x (next (lex-~ u) (next e (sorts-~ s))) (lex-ordered u) (sorts-ordered s)
+
+  -- the smallest letter that can come first, then the rest in order
+  pub lex-pick : {c : Letter} {w r : Word Γ} → Pick Γ c w r → Least c w
+      → lex Γ (length w) w ≡ c ∷ lex Γ (length r) r
+  lex-pick {w = w} {r = r} p m = sorts-lex (~-refl Γ w) (sort p m (lex-sorts (length r) r refl))
 
   pub lex-along : {u v : Word Γ} → u ~ v → lex Γ (length u) u ≡ lex Γ (length v) v
   lex-along {u} {v} e = sorts-lex e (lex-sorts (length v) v refl)

@@ -106,6 +106,11 @@ module _ (Γ : Alphabet) where
   pub pick-nil : {c : Letter} {r : Word Γ} → Pick Γ c [] r → ⊥
   pick-nil p = elim p [ ]
 
+  -- a word in which nothing can come first is empty
+  pub first-none : (w : Word Γ) → ((d : Letter) → First Γ d w → ⊥) → w ≡ []
+  first-none [] f = refl
+  first-none (a ∷ w) f = absurd (f a (w, here))
+
   pub not-first-nil : {c : Letter} → ¬ First Γ c []
   not-first-nil (r, p) = pick-nil p
 
