@@ -61,16 +61,8 @@ pub fn join_part(
     let Ringed::Of(one) = first else {
         return Outcome::Unsettled(1);
     };
-    let second = ring_of(
-        y,
-        labels,
-        apex,
-        rounds,
-        conflicts,
-        &mut other,
-        row,
-        one.cycled,
-    );
+    let end = one.cycled;
+    let second = ring_of(y, labels, apex, rounds, conflicts, &mut other, row, end);
     let Ringed::Of(two) = second else {
         return Outcome::Unsettled(2);
     };

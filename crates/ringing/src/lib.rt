@@ -65,9 +65,6 @@ pub fn ring_of(
     let Settled::Done(end) = settled else {
         return Ringed::Unsettled;
     };
-    let l = form(&word[..n], conflicts, ring);
-    Ringed::Of(Ends {
-        ring: l,
-        cycled: end,
-    })
+    let ring = form(&word[..n], conflicts, ring);
+    Ringed::Of(Ends { ring, cycled: end })
 }
