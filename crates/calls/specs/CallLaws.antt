@@ -59,3 +59,12 @@ same-bytes v w = (there v w, λ e. rw (← e) (same-refl v))
     there (a ∷ v) (b ∷ w) e =
         let h = and-true (eqb a b) (sameBytes v w) e in
         ap₂ (λ x y. x ∷ y) (eqb-true a b (h .0)) (there v w (h .1))
+
+-- a comparison that is exact gives the answer that the definition computes
+pub compared : (b : Bool) (v w : List ℕ) → (b ≡ true) ↔ (v ≡ w) → b ≡ sameBytes v w
+compared b v w h = go b (sameBytes v w) (λ e. same-bytes v w .1 (h .0 e)) (λ e. h .1 (same-bytes v w .0 e))
+  where
+    go : (p q : Bool) → (p ≡ true → q ≡ true) → (q ≡ true → p ≡ true) → p ≡ q
+    go true q f g = sym (f refl)
+    go false true f g = g refl
+    go false false f g = refl

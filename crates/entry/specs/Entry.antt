@@ -4,8 +4,10 @@ use mathlib.Core.Path.{_≡_}
 use mathlib.Core.List.{List, _++_}
 use mathlib.Core.Option.{Option, none}
 use lib.ListN.{length}
-use Rattle.refusal.specs.Line.{Line, toldChecked, firstLine, orElse}
+use Rattle.refusal.specs.Line.{Line, Answer, refused, toldChecked, firstLine, orElse, lineOf}
+use Rattle.refusal.specs.declared.Refusal.{Refusal}
 use Rattle.refusal.specs.declared.Checked.{Checked}
+use Rattle.refusal.specs.declared.Checked.the-variants.{Refused}
 use Rattle.catalogue.specs.Catalogue.{commands, catalogueLines}
 use Rattle.plan.specs.Plan.{planLines, Passing}
 use Rattle.engine.specs.Passed.{Passed}
@@ -44,3 +46,7 @@ threeLines c v w u = twoLines c v w ++ planLines 3 leadInLimit (commands c) u
 
 abbrev pub ThreePlans : List ℕ → List ℕ → List ℕ → List ℕ → List (List ℕ) → Checked → Type 0
 ThreePlans c v w u rows = Entered c (threeLines c v w u) ((Passed c rows v × Passed c rows w) × PassedLeadIn c u)
+
+-- for callers: the answer is the refusal of the check, where that is refused
+abbrev pub SameRefusal : {A : Type 0} → Checked → Answer A → Type 0
+SameRefusal r a = (f : Refusal) → r ≡ Refused f → a ≡ refused (lineOf f)

@@ -5,7 +5,7 @@ use mathlib.Core.List.{List, [], _∷_, _++_}
 use mathlib.Core.Option.{Option, none, some}
 use native.Mathlib.Omega.{arith}
 use lib.ListN.{length}
-use Rattle.refusal.specs.Line.{Line, given, firstLine, orElse, toldChecked, lineOf}
+use Rattle.refusal.specs.Line.{Line, Answer, refused, given, firstLine, orElse, toldChecked, lineOf}
 use Rattle.refusal.specs.LineLaws.{first-early, first-late, none-left, none-right}
 use Rattle.refusal.specs.SearchLaws.{passed-line, refused-line}
 use Rattle.refusal.specs.declared.Refusal.{Refusal}
@@ -27,6 +27,7 @@ use Rattle.entry.specs.Entry.{
   oneLines,
   twoLines,
   threeLines,
+  SameRefusal,
 }
 
 -- a check whose told answer is known
@@ -128,3 +129,10 @@ module _ {c : List ℕ} {ls : List (Option Line)} {P : Type 0} {r : Checked} (d 
 
   pub entered-some : {f : Refusal} → r ≡ Refused f → firstLine ls ≡ some (lineOf f)
   entered-some e = told-some (d .told) e
+
+-- a check that passes is no refusal to pass on, and one that is refused is passed on as it is
+pub passed-on-none : {A : Type 0} {r : Checked} {n : ℕ} (t : Answer A) → r ≡ Passed n → SameRefusal r t
+passed-on-none t e = λ f h. absurd (let z : _≡_ {A = ℕ} 0 1 = cc in omega arith)
+
+pub passed-on : {A : Type 0} {r : Checked} {g : Refusal} → r ≡ Refused g → SameRefusal {A = A} r (refused (lineOf g))
+passed-on {g = g} e = λ f h. let k : g ≡ f = cc in ap (λ x. refused (lineOf x)) k

@@ -1,15 +1,18 @@
 // The checks that every call goes through first: the catalogue, then its plans in their order. Passed carries the
-// number of commands, and then the rows hold the conflicts.
+// number of commands, and then the rows hold the conflicts. Then the refusal of an area that is too small.
 
 ghost use Prim.Native.Nat.{ℕ};
+ghost use mathlib.Core.Path.{_≡_};
 ghost use mathlib.Core.List.{List, _++_};
 ghost use mathlib.Core.Option.{Option};
-ghost use Rattle.refusal.specs.Line.{Line};
+ghost use Rattle.refusal.specs.Line.{Line, line, lineOf};
 ghost use Rattle.catalogue.specs.Catalogue.{commands};
 ghost use Rattle.plan.specs.Plan.{planLines};
 ghost use Rattle.chains.specs.Marks.{Blank};
 ghost use Rattle.entry.specs.Entry.{Told, OnePlan, TwoPlans, ThreePlans};
 use refusal::Checked;
+use refusal::Reason;
+use refusal::Refusal;
 
 // One more plan, of this number and of at most so many bytes, after the checks before it. A refusal of any of them is
 // passed on untouched.
@@ -56,4 +59,15 @@ pub fn three_plans(
         (now (conflicts .exit)) r ⌝ }
 {
     next_plan(two_plans(catalogue, v, w, conflicts), u, 3, 49152)
+}
+
+// The refusal of an area that is too small.
+pub fn small_area(area: usize) -> Refusal
+    ensures { λ r. ⌜ lineOf r ≡ line 9 0 area ⌝ }
+{
+    Refusal {
+        reason: Reason::AreaSize,
+        plan: 0,
+        place: area,
+    }
 }

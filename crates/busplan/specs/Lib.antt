@@ -1,5 +1,0 @@
-pub mod Outcome
-pub mod OutcomeLaws
-pub mod CheckOutcomeLaws
-pub mod LoopOutcome
-pub mod LoopOutcomeLaws
