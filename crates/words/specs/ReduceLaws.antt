@@ -1,9 +1,10 @@
 -- Laws of reduction: what it computes, that equal words reduce to one word up to swaps, and that reduced words are the
 -- shortest.
-use Prim.Native.Nat.{suc, _≤_}
+use Prim.Native.Nat.{suc, _+_, _≤_}
 use mathlib.Core.Path.{_≡_, refl, sym, _∙_, ap, subst}
 use mathlib.Core.Bool.{Bool, true, false, true≢false}
 use mathlib.Core.List.{[], _∷_, _++_, reverse, reverse-reverse, append-assoc}
+use mathlib.Core.Logic.{_↔_}
 use mathlib.Core.Option.{Option, none, some, Option·some-injective, Option·none-ne-some, Option·some-ne-none}
 use lib.ListN.{length, length-reverse}
 use native.Mathlib.Omega.{arith}
@@ -17,7 +18,7 @@ use Rattle.words.specs.TraceLaws.{dep-sym, dep-not, ~-refl, ~-sym, ~-len
 use Rattle.words.specs.TraceLaws.{pick-front, pick-along, pick-unique, pick-length, first-along}
 use Rattle.words.specs.TraceLaws.{not-first-nil, not-first-cons, diamond}
 use Rattle.words.specs.TraceLaws.{Splits, early, late, pick-after, pick-past, pick-split}
-use Rattle.words.specs.GroupLaws.{dep-inv, dep-inv-right, ≈-refl, ≈-of-≡, ~→≈, ≈-reverse}
+use Rattle.words.specs.GroupLaws.{dep-inv, dep-inv-right, ≈-refl, ≈-of-≡, ~→≈, drop-back, ≈-reverse}
 use Rattle.words.specs.GroupLaws.{undo-onto, undo-twice, undo-length, ≈-undo, apart-undo, pick-undo}
 
 module _ (Γ : Alphabet) where
@@ -193,6 +194,12 @@ module _ (Γ : Alphabet) where
   act-≈ (cut p) = then (back drop) (keep (back (~→≈ Γ (pick-front Γ p))))
   act-≈ {a} {w} (put n) = ≈-refl Γ (a ∷ w)
 
+  -- w begins with a, and p follows, exactly if w after the undo of a is p
+  pub act-shift : (a : Letter) (w p : Word Γ) → (w ≈ (a ∷ p)) ↔ (act Γ (inv a) w ≈ p)
+  act-shift a w p =
+      let e : act Γ (inv a) w ≈ (inv a ∷ w) = act-≈ (acts (inv a) w) in
+      (λ f. then e (then (keep f) (drop-back Γ a p)), λ f. then (back drop) (keep (then (back e) f)))
+
   pub reduce-≈ : (w : Word Γ) → reduce Γ w ≈ w
   unfolding reduce
   reduce-≈ [] = empty
@@ -217,6 +224,13 @@ module _ (Γ : Alphabet) where
   pub act-length : {a : Letter} {w r : Word Γ} → Act a w r → length r ≤ suc (length w)
   act-length (cut p) = omega (arith, pick-length Γ p)
   act-length (put n) = omega arith
+
+  -- a letter that cancels leaves one less, any other one more
+  pub act-falls : (a : Letter) (w : Word Γ) → First Γ (inv a) w → length w ≡ length (act Γ a w) + 1
+  act-falls a w (r, p) = rw (act-is (cut p)) (omega (arith, pick-length Γ p))
+
+  pub act-rises : (a : Letter) (w : Word Γ) → ¬ First Γ (inv a) w → length (act Γ a w) ≡ length w + 1
+  act-rises a w n = rw (act-is (put n)) (omega arith)
 
   pub reduce-length : (w : Word Γ) → length (reduce Γ w) ≤ length w
   unfolding reduce
