@@ -19,3 +19,8 @@ pub record Piled (c : List ℕ) (rows : List (List ℕ)) (heights : List ℕ) (z
   pub stack : (i : ℕ) → i < 24 → take (getD heights i 0) (getD rows i []) ≡ reverse (proj (alphabet c) 0 (i + 1) z)
   pub height : (i : ℕ) → i < 24 → getD heights i 0 ≡ length (proj (alphabet c) 0 (i + 1) z)
   pub above : (i j : ℕ) → i < 24 → getD heights i 0 ≤ j → getD (getD rows i []) j 0 ≡ 0
+
+-- the piling of z, which has n letters
+pub record Counted (c : List ℕ) (rows : List (List ℕ)) (heights z : List ℕ) (n : ℕ) : Type 0 where
+  pub piled : Piled c rows heights z
+  pub count : n ≡ length z

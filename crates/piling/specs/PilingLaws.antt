@@ -1,13 +1,13 @@
 -- Laws of pilings: a letter put on a piling acts on the word that is piled.
 use Prim.Native.Nat.{ℕ, _+_, _-_, _≤_, _<_}
 use native.Mathlib.Omega.{arith}
-use mathlib.Core.Bool.{Bool, true, false, true≢false}
+use mathlib.Core.Bool.{Bool, true, false, true≢false, false≢true}
 use mathlib.Core.Path.{_≡_, sym, _∙_, ap, subst}
 use mathlib.Core.List.{List, [], _∷_, _++_, reverse}
 use lib.ListN.{length, getD, take, set, length-set, length-append, length-reverse}
 use Rattle.words.specs.Trace.{Pick, First}
 use Rattle.words.specs.Reduce.{act}
-use Rattle.words.specs.ReduceLaws.{cut, put, act-is}
+use Rattle.words.specs.ReduceLaws.{cut, put, act-is, act-falls}
 use Rattle.words.specs.Stack.{proj, mark}
 use Rattle.words.specs.StackLaws.{Marked, apart, own, other, marked, proj-length}
 use Rattle.words.specs.StackLaws.{stack-push, stack-pick, stack-first, stack-top}
@@ -16,12 +16,12 @@ use Rattle.catalogue.specs.ConflictLaws.{conflict-refl, conflict-sym}
 use Rattle.plan.specs.Byte.{commandOf, undone}
 use Rattle.plan.specs.ByteLaws.{command-undone}
 use Rattle.plan.specs.Letters.{alphabet}
-use Rattle.piling.specs.Piling.{Piled}
+use Rattle.piling.specs.Piling.{Piled, Counted}
 use Rattle.beads.specs.Heights.{Both, Changed}
 use Rattle.beads.specs.BeadsLaws.{Beads, Meets, aside, written, beads-split, beads-top, meets-add, meets-off}
-use Rattle.beads.specs.BeadsLaws.{meets-length, meets-one}
+use Rattle.beads.specs.BeadsLaws.{beads-fit, meets-length, meets-one}
 use Rattle.beads.specs.BeadsLaws as Beads
-use Rattle.piling.specs.Push.{Ready}
+use Rattle.piling.specs.Push.{Facing, Ready, Cancelled}
 
 -- the stack of command i + 1, bottom first
 abbrev stackOf : List ℕ → ℕ → List ℕ → List ℕ
@@ -64,7 +64,7 @@ meets-line c k b i n e f = go (marked (alphabet c) 0 (i + 1) b)
     go (other q o) = rw (count true q) (Beads.other (λ s. o (e ∙ ap (λ (j : ℕ). j + 1) (sym s))))
 
 module _ {c : List ℕ} {rows : List (List ℕ)} {heights line : List ℕ} {k letter : ℕ} {z : List ℕ}
-    (r : Ready c rows heights line k letter z) where
+    (r : Facing c rows heights line k letter z) where
   inside : k < length rows
   inside = omega (arith, r .within, r .piled .shape .tall)
 
@@ -75,13 +75,13 @@ module _ {c : List ℕ} {rows : List (List ℕ)} {heights line : List ℕ} {k le
   own-undone : commandOf (undone letter) ≡ k + 1
   own-undone = command-undone letter ∙ r .own
 
-  pub ready-room : (i : ℕ) → i < 24 → getD heights i 0 < 1024
-  ready-room i l = omega (arith, r .room, r .piled .height i l, proj-length (alphabet c) 0 (i + 1) z)
+  pub facing-high : (i : ℕ) → i < 24 → getD heights i 0 ≤ 1024
+  facing-high i l = beads-fit (piled-beads (r .piled) i l)
 
   -- the undo on top of the letter's own stack can come first
-  pub ready-first : 0 < getD heights k 0 → getD (getD rows k []) (getD heights k 0 - 1) 0 ≡ undone letter
+  pub top-first : 0 < getD heights k 0 → getD (getD rows k []) (getD heights k 0 - 1) 0 ≡ undone letter
       → First (alphabet c) (undone letter) z
-  ready-first l e =
+  top-first l e =
       let x = take (getD heights k 0 - 1) (getD rows k []) in
       let s : stackOf c k z ≡ x ++ undone letter ∷ []
       = beads-split l (piled-beads (r .piled) k (r .within)) ∙ ap (λ (b : ℕ). x ++ b ∷ []) e in
@@ -89,9 +89,9 @@ module _ {c : List ℕ} {rows : List (List ℕ)} {heights line : List ℕ} {k le
       stack-top (alphabet c) 0 (k + 1) z x s n .1
 
   -- and an undo that can come first is there
-  pub first-ready : First (alphabet c) (undone letter) z
+  pub first-top : First (alphabet c) (undone letter) z
       → (0 < getD heights k 0) × (getD (getD rows k []) (getD heights k 0 - 1) 0 ≡ undone letter)
-  first-ready (v, p) =
+  first-top (v, p) =
       let s : stackOf c k z ≡ stackOf c k v ++ undone letter ∷ []
       = subst (λ (j : ℕ). reverse (proj (alphabet c) 0 j z) ≡ reverse (proj (alphabet c) 0 j v) ++ undone letter ∷ [])
       own-undone (stack-first (alphabet c) 0 p) in
@@ -104,7 +104,7 @@ module _ {c : List ℕ} {rows : List (List ℕ)} {heights line : List ℕ} {k le
   put-room = record {
     many = r .piled .shape .many;
     wide = r .wide;
-    holds = λ i l. omega (arith, ready-room i l, meets-one (meets letter i (r .own) l));
+    holds = λ i l. omega (arith, facing-high i l, meets-one (meets letter i (r .own) l));
   }
 
   -- the stacks, with what the undo put on them apart
@@ -134,21 +134,55 @@ module _ {c : List ℕ} {rows : List (List ℕ)} {heights line : List ℕ} {k le
       (m .kept ∙ r .piled .shape .many)
       (λ i l. rw (m .each i l) (g i l))
 
-  put-piled : {last : List ℕ} → Changed _+_ line heights last
-      → Piled c (written rows k (getD heights k 0) letter) last (letter ∷ z)
-  put-piled m = changed (getD heights k 0) letter (letter ∷ z) m λ i l.
-      rw (stack-push (alphabet c) 0 (i + 1) letter z)
-      (meets-add rows heights k inside (meets letter i (r .own) l) (ready-room i l) (piled-beads (r .piled) i l))
-
   cut-piled : {last v : List ℕ} → Pick (alphabet c) (undone letter) z v → Changed _-_ line heights last
       → Piled c (written rows k (getD heights k 0 - 1) 0) last v
   cut-piled {v = v} p m = changed (getD heights k 0 - 1) 0 v m λ i l.
       meets-off rows heights k inside (stackOf c i v) (meets (undone letter) i own-undone l) (off p i l)
 
-  pub put-acts : ¬ First (alphabet c) (undone letter) z → {last : List ℕ} → Changed _+_ line heights last
-      → Piled c (written rows k (getD heights k 0) letter) last (act (alphabet c) letter z)
-  put-acts n m = rw (act-is (alphabet c) (put n)) (put-piled m)
-
   pub cut-acts : First (alphabet c) (undone letter) z → {last : List ℕ} → Changed _-_ line heights last
       → Piled c (written rows k (getD heights k 0 - 1) 0) last (act (alphabet c) letter z)
   cut-acts (v, p) m = rw (act-is (alphabet c) (cut p)) (cut-piled p m)
+
+module _ {c : List ℕ} {rows : List (List ℕ)} {heights line : List ℕ} {k letter : ℕ} {z : List ℕ}
+    (r : Ready c rows heights line k letter z) where
+  pub ready-room : (i : ℕ) → i < 24 → getD heights i 0 < 1024
+  ready-room i l = omega (arith, r .room, r .facing .piled .height i l, proj-length (alphabet c) 0 (i + 1) z)
+
+  pub put-piled : {last : List ℕ} → Changed _+_ line heights last
+      → Piled c (written rows k (getD heights k 0) letter) last (letter ∷ z)
+  put-piled m = changed (r .facing) (getD heights k 0) letter (letter ∷ z) m λ i l.
+      rw (stack-push (alphabet c) 0 (i + 1) letter z)
+      (meets-add rows heights k (inside (r .facing)) (meets (r .facing) letter i (r .facing .own) l) (ready-room i l)
+      (piled-beads (r .facing .piled) i l))
+
+-- the two ends of cancelling
+module _ {c : List ℕ} {rows : List (List ℕ)} {heights : List ℕ} {letter : ℕ} {z : List ℕ} where
+  pub gone-off : First (alphabet c) (undone letter) z → Piled c rows heights (act (alphabet c) letter z)
+      → Cancelled c rows heights letter z true
+  gone-off f p = record { gone = λ e. (f, p); none = λ e. absurd (true≢false e) }
+
+  pub none-off : Piled c rows heights z → ¬ First (alphabet c) (undone letter) z
+      → Cancelled c rows heights letter z false
+  none-off p n = record { gone = λ e. absurd (false≢true e); none = λ e. (n, p) }
+
+-- where a letter has not cancelled it is as ready as before
+pub still-ready : {c : List ℕ} {rows : List (List ℕ)} {heights line : List ℕ} {k letter : ℕ} {z : List ℕ}
+    {rows′ : List (List ℕ)} {heights′ : List ℕ} → length z < 1024 → Facing c rows heights line k letter z
+    → Piled c rows′ heights′ z → Ready c rows′ heights′ line k letter z
+still-ready l r p = record {
+  facing = record { piled = p; within = r .within; own = r .own; wide = r .wide; tells = r .tells };
+  room = l;
+}
+
+-- a letter that has cancelled, or was put on where it could not
+module _ {c : List ℕ} {rows : List (List ℕ)} {heights : List ℕ} (letter : ℕ) (z : List ℕ) where
+  pub cut-counted : {n : ℕ} → First (alphabet c) (undone letter) z
+      → Piled c rows heights (act (alphabet c) letter z) → n ≡ length z
+      → (0 < n) × Counted c rows heights (act (alphabet c) letter z) (n - 1)
+  cut-counted f p e =
+      let l = act-falls (alphabet c) letter z f in
+      (omega arith, record { piled = p; count = omega arith })
+
+  pub put-counted : {n : ℕ} → ¬ First (alphabet c) (undone letter) z → Piled c rows heights (letter ∷ z) → n ≡ length z
+      → Counted c rows heights (act (alphabet c) letter z) (n + 1)
+  put-counted n p e = rw (act-is (alphabet c) (put n)) (record { piled = p; count = omega arith })

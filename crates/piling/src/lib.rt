@@ -5,16 +5,17 @@ use beads::lift;
 use beads::lower;
 ghost use Prim.Native.Nat.{ℕ, _<_};
 ghost use mathlib.Core.Path.{_≡_};
-ghost use mathlib.Core.List.{List};
+ghost use mathlib.Core.List.{List, _∷_};
+ghost use lib.ListN.{length};
 ghost use Rattle.words.specs.Reduce.{act};
 ghost use Rattle.plan.specs.Byte.{commandOf, undone};
 ghost use Rattle.plan.specs.Letters.{alphabet};
-ghost use Rattle.piling.specs.Piling.{Piled};
-ghost use Rattle.piling.specs.Push.{Ready};
+ghost use Rattle.piling.specs.Piling.{Piled, Counted};
+ghost use Rattle.piling.specs.Push.{Facing, Ready, Cancelled};
 ghost use Rattle.piling.specs.Pile.{Given, reduced};
 
 // The undo of a byte of some command: plan::undo less its tests for 0 and 128, in the loop over a plan's letters.
-fn opposite(letter: u8) -> u8
+pub fn opposite(letter: u8) -> u8
     requires { ⌜ 0 < commandOf letter ⌝ }
     ensures { λ r. ⌜ r ≡ undone letter ⌝ }
 {
@@ -25,9 +26,34 @@ fn opposite(letter: u8) -> u8
     }
 }
 
-// One letter of command k + 1, whose line of conflicts tells which stacks it meets. Past a stack's height all is 0, so
-// that no 0 has to be written. The bead is written last: so the compiler changes eight heights at a time.
-pub fn push(
+// Takes a letter's undo off the piling, if it is on top of the stack of the letter's command k + 1, whose line of
+// conflicts tells which stacks it meets. Whether it was there. The bead is written last: so the compiler changes eight
+// heights at a time.
+pub fn cancel(
+    rows: &mut [[u8; 1024]; 24],
+    heights: &mut [u16; 24],
+    line: &[u16; 24],
+    k: usize,
+    letter: u8,
+) -> bool
+    requires { ⌜ ((c : List ℕ) × (z : List ℕ) × Facing c (now rows) (now heights) (now line) k letter z) ⌝ }
+    ensures { λ r. ⌜ ((c z : List ℕ)
+        → Facing c (now (rows .entry)) (now (heights .entry)) (now (line .entry)) k letter z
+        → Cancelled c (now (rows .exit)) (now (heights .exit)) letter z r) ⌝ }
+{
+    let h = heights[k] as usize;
+    if h > 0 {
+        if rows[k][h - 1] == opposite(letter) {
+            lower(heights, line);
+            rows[k][h - 1] = 0;
+            return true;
+        }
+    }
+    false
+}
+
+// Puts a letter of command k + 1 on the piling. Past a stack's height all is 0, so that no 0 has to be written.
+pub fn put(
     rows: &mut [[u8; 1024]; 24],
     heights: &mut [u16; 24],
     line: &[u16; 24],
@@ -37,40 +63,58 @@ pub fn push(
     requires { ⌜ ((c : List ℕ) × (z : List ℕ) × Ready c (now rows) (now heights) (now line) k letter z) ⌝ }
     ensures { λ r. ⌜ ((c z : List ℕ)
         → Ready c (now (rows .entry)) (now (heights .entry)) (now (line .entry)) k letter z
-        → Piled c (now (rows .exit)) (now (heights .exit)) (act (alphabet c) letter z)) ⌝ }
+        → Piled c (now (rows .exit)) (now (heights .exit)) (letter ∷ z)) ⌝ }
 {
     let h = heights[k] as usize;
-    if h > 0 {
-        if rows[k][h - 1] == opposite(letter) {
-            lower(heights, line);
-            rows[k][h - 1] = 0;
-            return;
-        }
-    }
     lift(heights, line);
     rows[k][h] = letter;
 }
 
-// The piling of a plan that passes, in rows with no bead. conflicts has a line for each command.
+// One letter of command k + 1 on a piling of n letters: it cancels or is put on. The number of letters then.
+pub fn push(
+    rows: &mut [[u8; 1024]; 24],
+    heights: &mut [u16; 24],
+    line: &[u16; 24],
+    k: usize,
+    letter: u8,
+    n: usize,
+) -> usize
+    requires { ⌜ ((c : List ℕ) × (z : List ℕ) × Ready c (now rows) (now heights) (now line) k letter z
+        × (n ≡ length z)) ⌝ }
+    ensures { λ r. ⌜ ((c z : List ℕ)
+        → Ready c (now (rows .entry)) (now (heights .entry)) (now (line .entry)) k letter z → n ≡ length z
+        → Counted c (now (rows .exit)) (now (heights .exit)) (act (alphabet c) letter z) r) ⌝ }
+{
+    if cancel(rows, heights, line, k, letter) {
+        return n - 1;
+    }
+    put(rows, heights, line, k, letter);
+    n + 1
+}
+
+// The piling of a plan that passes, in rows with no bead, and its number of letters. conflicts has a line for each
+// command.
 pub fn pile(
     plan: &[u8],
     conflicts: &[[u16; 24]; 24],
     rows: &mut [[u8; 1024]; 24],
     heights: &mut [u16; 24],
-)
+) -> usize
     requires { ⌜ ((c : List ℕ) × Given c (now plan) (now conflicts) (now rows) (now heights)) ⌝ }
     ensures { λ r. ⌜ ((c : List ℕ)
         → Given c (now (plan .entry)) (now (conflicts .entry)) (now (rows .entry)) (now (heights .entry))
-        → Piled c (now (rows .exit)) (now (heights .exit)) (reduced c (now (plan .entry)))) ⌝ }
+        → Counted c (now (rows .exit)) (now (heights .exit)) (reduced c (now (plan .entry))) r) ⌝ }
 {
+    let mut n = 0;
     let mut i = 0;
     while i < plan.len() {
         let letter = plan[i];
         if letter != 0 {
             let k = (letter % 128) as usize - 1;
             let line = conflicts[k];
-            push(rows, heights, &line, k, letter);
+            n = push(rows, heights, &line, k, letter, n);
         }
         i += 1;
     }
+    n
 }

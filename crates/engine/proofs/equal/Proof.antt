@@ -53,7 +53,7 @@ first-piled c k p =
     let a = c .before .before .before .before .before .before .before .before .before in
     let h = a .before in
     a .pile .ensures k
-    (passed-given p (h .before .before .before .blank-rows .ensures) (h .before .before .blank-heights .ensures))
+    (passed-given p (h .before .before .before .blank-rows .ensures) (h .before .before .blank-heights .ensures)) .piled
 
 second-piled : (c : tie.After-wheights2) (k : List ℕ)
     → let s = c .before .before .before .before .before .before .before .before .before .before .before .before .before .before .before .before in
@@ -65,7 +65,7 @@ second-piled c k p =
     let a = c .before .before .before .before in
     let h = a .before in
     a .pile2 .ensures k
-    (passed-given p (h .before .before .before .blank-rows2 .ensures) (h .before .before .blank-heights2 .ensures))
+    (passed-given p (h .before .before .before .blank-rows2 .ensures) (h .before .before .blank-heights2 .ensures)) .piled
 
 -- src/lib.rt:38:5
 same-requires : tie.Need-same-requires

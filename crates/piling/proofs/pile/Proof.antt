@@ -12,10 +12,10 @@ use Rattle.piling.proofs.pile.Statement.{statement}
 use Rattle.piling.proofs.pile.Tie as tie
 
 abbrev Inv-loop : tie.InvT-loop
-Inv-loop plan conflicts rows₀ heights₀ i₀ rows heights i = Piling plan conflicts rows₀ heights₀ rows heights i
+Inv-loop plan conflicts rows₀ heights₀ n₀ i₀ rows heights n i = Piling plan conflicts rows₀ heights₀ rows heights n i
 
 abbrev μ-loop : tie.MeasureT-loop
-μ-loop plan conflicts rows₀ heights₀ i₀ rows heights i = length plan - i
+μ-loop plan conflicts rows₀ heights₀ n₀ i₀ rows heights n i = length plan - i
 
 loop-holds : tie.Need-loop-holds Inv-loop μ-loop
 loop-holds c = piling-start
@@ -46,8 +46,12 @@ push-requires : tie.Need-push-requires Inv-loop μ-loop
 push-requires c κs =
     let t = c .before .before .before .before in
     let g = t .before .before .before .before .before .pre in
-    let h = t .before .before .before .loop in
-    (g .0, reduced (g .0) (take (h .i) _), piling-ready (h .inv) (omega arith) (t .if1 .taken) (g .1))
+    let h = t .before .before .before .loop in (
+      g .0,
+      reduced (g .0) (take (h .i) _),
+      piling-ready (h .inv) (omega arith) (t .if1 .taken) (g .1),
+      h .inv .piled (g .0) (g .1) .count,
+    )
 
 add-i : tie.Need-add-i Inv-loop μ-loop
 add-i c = omega arith
@@ -59,8 +63,8 @@ loop-again : tie.Need-loop-again Inv-loop μ-loop
 loop-again c =
     let h = c .before .before .before .loop in
     ⊎-elim
-    (λ w. rw (w .6, w .7) (piling-letter (h .inv) (omega arith) (w .0 .taken) (w .5 .ensures)))
-    (λ w. rw (w .1, w .2) (piling-filler (h .inv) (omega arith) (w .0 .left)))
+    (λ w. rw (w .6, w .7, w .8) (piling-letter (h .inv) (omega arith) (w .0 .taken) (w .5 .ensures)))
+    (λ w. rw (w .1, w .2, w .3) (piling-filler (h .inv) (omega arith) (w .0 .left)))
     (c .if1 .came)
 
 returns : tie.Need-returns Inv-loop μ-loop
