@@ -1,3 +1,3 @@
--- Laws of the comparison: of two rows, and of two pilings.
-pub mod RowLaws
-pub mod SameLaws
+-- Undoing a plan on a piling.
+pub mod Comparing
+pub mod ComparingLaws

@@ -1,56 +1,75 @@
-// Comparing two pilings. Words have equal pilings exactly if they are equal up to swaps, so nothing is read off.
+// Comparing a piling with a plan: the plan's letters are undone on the piling from the last to the first, and the word
+// piled up is the plan's exactly if nothing is left.
 
-ghost use Prim.Native.Nat.{ℕ, _≤_};
+use piling::cancel;
+use piling::opposite;
+use piling::put;
+ghost use Prim.Native.Nat.{ℕ};
 ghost use mathlib.Core.Path.{_≡_};
 ghost use mathlib.Core.Bool.{true};
-ghost use mathlib.Core.List.{List};
+ghost use mathlib.Core.List.{List, reverse};
 ghost use mathlib.Core.Logic.{_↔_};
-ghost use lib.ListN.{length, take};
-ghost use Rattle.words.specs.All.{All};
-ghost use Rattle.words.specs.Trace.{_~_};
-ghost use Rattle.plan.specs.Letters.{alphabet};
-ghost use Rattle.plan.specs.Lettered.{Lettered};
-ghost use Rattle.piling.specs.Piling.{Piled};
+ghost use Rattle.words.specs.Group.{_≈_};
+ghost use Rattle.plan.specs.Letters.{alphabet, letters};
+ghost use Rattle.comparing.specs.Comparing.{Undoable, Undone, Opposed};
 
-// Whether two rows agree below a height. The bits in which beads differ are gathered, with no way out of the loop, so
-// that many beads are compared at a time.
-fn same_row(v: &[u8; 1024], w: &[u8; 1024], height: u16) -> bool
-    requires { ⌜ (length (now v) ≡ 1024) × (length (now w) ≡ 1024) × (height ≤ 1024) ⌝ }
-    ensures { λ r. ⌜ ((r ≡ true) ↔ (take height (now (v .entry)) ≡ take height (now (w .entry)))) ⌝ }
+// Undoes one byte on a piling that has `spare` letters fewer than the plan has bytes up to this one. What of that is
+// spent: nothing where the letter cancels, one by a filler, two by a letter put on. It is put on only if two are spare.
+fn undo_byte(
+    byte: u8,
+    conflicts: &[[u16; 24]; 24],
+    rows: &mut [[u8; 1024]; 24],
+    heights: &mut [u16; 24],
+    spare: usize,
+) -> usize
+    requires { ⌜ ((c : List ℕ) × (z : List ℕ)
+        × Undoable c (now conflicts) (now rows) (now heights) byte spare z) ⌝ }
+    ensures { λ r. ⌜ ((c z : List ℕ)
+        → Undoable c (now (conflicts .entry)) (now (rows .entry)) (now (heights .entry)) byte spare z
+        → Undone c (now (rows .exit)) (now (heights .exit)) byte spare z r) ⌝ }
 {
-    let mut differ: u8 = 0;
-    let mut j: usize = 0;
-    while j < height as usize {
-        differ |= v[j] ^ w[j];
-        j += 1;
+    if byte == 0 {
+        return 1;
     }
-    differ == 0
+    let k = (byte % 128) as usize - 1;
+    let line = conflicts[k];
+    let letter = opposite(byte);
+    if cancel(rows, heights, &line, k, letter) {
+        return 0;
+    }
+    if spare < 2 {
+        return 2;
+    }
+    put(rows, heights, &line, k, letter);
+    2
 }
 
-// Whether two pilings are equal.
-pub fn same(
-    vrows: &[[u8; 1024]; 24],
-    vheights: &[u16; 24],
-    wrows: &[[u8; 1024]; 24],
-    wheights: &[u16; 24],
+// Whether the word piled up, of n letters, is that of plan w. If it is, what is left of it never has more letters than
+// w has bytes still to undo, since no equal word is shorter: the rows are wide enough, and at the end nothing is left.
+pub fn equals(
+    w: &[u8],
+    conflicts: &[[u16; 24]; 24],
+    rows: &mut [[u8; 1024]; 24],
+    heights: &mut [u16; 24],
+    n: usize,
 ) -> bool
-    requires { ⌜ ((c : List ℕ) × (z : List ℕ) × (y : List ℕ)
-        × Piled c (now vrows) (now vheights) z × Piled c (now wrows) (now wheights) y) ⌝ }
-    ensures { λ r.
-        ⌜ ((c z y : List ℕ) → All Lettered z → All Lettered y
-        → Piled c (now (vrows .entry)) (now (vheights .entry)) z
-        → Piled c (now (wrows .entry)) (now (wheights .entry)) y
-        → (r ≡ true) ↔ (_~_ (alphabet c) z y)) ⌝ }
+    requires { ⌜ ((c : List ℕ) × (z : List ℕ) × Opposed c (now w) (now conflicts) (now rows) (now heights) n z) ⌝ }
+    ensures { λ r. ⌜ ((c z : List ℕ)
+        → Opposed c (now (w .entry)) (now (conflicts .entry)) (now (rows .entry)) (now (heights .entry)) n z
+        → (r ≡ true) ↔ (_≈_ (alphabet c) z (reverse (letters (now (w .entry)))))) ⌝ }
 {
-    let mut i = 0;
-    while i < 24 {
-        if vheights[i] != wheights[i] {
+    let mut i = w.len();
+    if i < n {
+        return false;
+    }
+    let mut spare = i - n;
+    while i > 0 {
+        i -= 1;
+        let spent = undo_byte(w[i], conflicts, rows, heights, spare);
+        if spare < spent {
             return false;
         }
-        if !same_row(&vrows[i], &wrows[i], vheights[i]) {
-            return false;
-        }
-        i += 1;
+        spare -= spent;
     }
     true
 }

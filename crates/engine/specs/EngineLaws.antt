@@ -1,22 +1,18 @@
--- A plan that has passed can be piled up, and equal pilings are equal normal forms.
+-- A plan that has passed can be piled up, and the word that is then piled.
 use Prim.Native.Nat.{ℕ, _≤_}
 use mathlib.Core.Path.{_≡_, sym, subst, subst₂}
 use mathlib.Core.List.{List, [], reverse, reverse-reverse}
 use mathlib.Core.Bool.{true}
-use mathlib.Core.Logic.{_↔_}
 use native.Mathlib.Omega.{arith}
 use lib.ListN.{length, length-reverse}
 use Rattle.words.specs.All.{All, all-map, all-reverse}
-use Rattle.words.specs.Trace as Trace
 use Rattle.words.specs.Group as Group
-use Rattle.words.specs.Group.{then, back}
-use Rattle.words.specs.GroupLaws.{~→≈, ≈-reverse}
-use Rattle.words.specs.ReduceLaws.{reduce-≈, reduce-~, reduce-length}
-use Rattle.words.specs.NormalLaws.{nf-complete, nf-sound}
+use Rattle.words.specs.GroupLaws.{≈-reverse}
+use Rattle.words.specs.ReduceLaws.{reduce-≈, reduce-length}
 use Rattle.words.specs.LetterLaws.{all-reduce}
 use Rattle.catalogue.specs.Catalogue.{commands}
 use Rattle.plan.specs.Plan.{isCommand}
-use Rattle.plan.specs.Letters.{letters, alphabet, normalForm}
+use Rattle.plan.specs.Letters.{letters, alphabet}
 use Rattle.plan.specs.LettersLaws.{letters-commands, letters-length}
 use Rattle.plan.specs.CommandLaws.{command-range}
 use Rattle.plan.specs.Lettered.{Lettered}
@@ -62,12 +58,3 @@ module _ (c v : List ℕ) where
   reduced-word =
       subst (λ x. reverse (reduced c v) ≈ x) (reverse-reverse (letters v))
       (≈-reverse (alphabet c) (reduce-≈ (alphabet c) (reverse (letters v))))
-
--- what is compared
-pub same-normal : (c v w : List ℕ)
-    → (Trace._~_ (alphabet c) (reduced c v) (reduced c w)) ↔ (normalForm c v ≡ normalForm c w)
-unfolding normalForm
-same-normal c v w = (
-  λ e. nf-complete (alphabet c) (then (back (reduced-word c v)) (then (≈-reverse (alphabet c) (~→≈ (alphabet c) e)) (reduced-word c w))),
-  λ e. reduce-~ (alphabet c) (≈-reverse (alphabet c) (nf-sound (alphabet c) (letters v) (letters w) e)),
-)

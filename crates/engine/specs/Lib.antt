@@ -1,2 +1,3 @@
 pub mod Passed
 pub mod EngineLaws
+pub mod EqualLaws

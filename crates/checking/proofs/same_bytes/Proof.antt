@@ -1,11 +1,10 @@
 -- `checking::same_bytes` meets its contract: `differ` is 0 as long as the bytes below i agree.
 use Prim.Native.Nat.{_≤_, _-_}
-use mathlib.Core.Path.{_≡_, ap}
+use mathlib.Core.Path.{_≡_}
 use native.Mathlib.Omega.{arith}
 use lib.ListN.{length}
 use lib.Seq.{take-all}
-use Rattle.comparing.specs.RowLaws.{Compared, compared-start, compared-again, compared-end}
-use Rattle.comparing.specs.SameLaws.{tells-not}
+use Rattle.checking.specs.RowLaws.{Compared, compared-start, compared-again, compared-end, lengths-differ}
 use Rattle.checking.proofs.same_bytes.Statement.{statement}
 use Rattle.checking.proofs.same_bytes.Tie as tie
 
@@ -16,7 +15,7 @@ abbrev μ-loop : tie.MeasureT-loop
 μ-loop a b differ₀ i₀ differ i = length a - i
 
 returns : tie.Need-returns Inv-loop μ-loop
-returns c = tells-not (λ e. c .if1 .taken (ap length e))
+returns c = lengths-differ (c .if1 .taken)
 
 loop-holds : tie.Need-loop-holds Inv-loop μ-loop
 loop-holds c = (omega arith, omega arith, compared-start _ _)

@@ -1,7 +1,7 @@
--- Comparing two rows: a number that gathers the bits in which they differ is 0 as long as they agree.
+-- Comparing two rows of bytes: a number that gathers the bits in which they differ is 0 as long as they agree.
 use Prim.Native.Nat.{ℕ, _+_, _<_}
 use mathlib.Core.Path.{_≡_, refl, sym, _∙_, ap}
-use mathlib.Core.Bool.{true}
+use mathlib.Core.Bool.{true, false, false≢true}
 use mathlib.Core.List.{List}
 use mathlib.Core.Logic.{_↔_}
 use native.Mathlib.Omega.{arith}
@@ -54,3 +54,6 @@ module _ {v w : List ℕ} {differ j : ℕ} (c : Compared v w differ j) where
 
   pub compared-end : (eqb differ 0 ≡ true) ↔ (take j v ≡ take j w)
   compared-end = (λ e. c .same (eqb-true differ 0 e), λ e. eq-eqb differ 0 (c .none e))
+
+pub lengths-differ : {v w : List ℕ} → ¬ (length v ≡ length w) → (false ≡ true) ↔ (v ≡ w)
+lengths-differ n = (λ e. absurd (false≢true e), λ e. absurd (n (ap length e)))
