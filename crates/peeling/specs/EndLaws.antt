@@ -18,15 +18,14 @@ use Rattle.words.specs.StackLaws.{mark-own, mark-length, proj-append, proj-alon
 use Rattle.words.specs.StackLaws.{proj-front-rest, stack-top, stack-read}
 use Rattle.conjugacy.specs.Turn.{Tight}
 use Rattle.conjugacy.specs.CoreLaws.{Peels, off}
-use Rattle.catalogue.specs.Conflict.{conflict, bit, Conflicts}
-use Rattle.catalogue.specs.ConflictLaws.{conflict-sym}
+use Rattle.catalogue.specs.Conflict.{Conflicts}
 use Rattle.plan.specs.Byte.{commandOf, undone}
 use Rattle.plan.specs.ByteLaws.{command-undone}
 use Rattle.plan.specs.Letters.{alphabet}
 use Rattle.plan.specs.Lettered.{Lettered}
 use Rattle.plan.specs.LetteredLaws.{lettered-filler}
 use Rattle.reading.specs.Reading.{lowest, beadsLeft, Left}
-use Rattle.reading.specs.LeftLaws.{mark-count, left-shows}
+use Rattle.reading.specs.LeftLaws.{line-count, left-shows}
 use Rattle.peeling.specs.Peeling.{Pair, FirstPair, Movable, Moved}
 use Rattle.peeling.specs.SliceLaws.{slice-snoc, slice-inner, slice-ends}
 
@@ -120,12 +119,11 @@ module _ {rows : List (List ℕ)} {heights c at y : List ℕ} (e : Left rows hei
   module _ {table : List (List ℕ)} {k b : ℕ} {s : List ℕ} (t : Conflicts c table) (l : k < 24)
       (m : commandOf b ≡ k + 1) (w : Peels (alphabet c) b y s) where
     -- how many beads each of them takes off row i
-    line-count : (i : ℕ) → i < 24 → length (bead c (i + 1) b) ≡ getD (getD table k []) i 0
-    line-count i h = mark-count c (i + 1) b
-        ∙ ap bit (ap (conflict c (i + 1)) m ∙ conflict-sym c (i + 1) (k + 1)) ∙ sym (t .tells k i l h)
+    line-letter : (i : ℕ) → i < 24 → length (bead c (i + 1) b) ≡ getD (getD table k []) i 0
+    line-letter i h = sym (line-count k b t l m i h)
 
     line-undone : (i : ℕ) → i < 24 → length (bead c (i + 1) (undone b)) ≡ getD (getD table k []) i 0
-    line-undone i h = mark-length (alphabet c) 0 (i + 1) (undone b) b (command-undone b) ∙ line-count i h
+    line-undone i h = mark-length (alphabet c) 0 (i + 1) (undone b) b (command-undone b) ∙ line-letter i h
 
     -- what is left of row i between them
     peels-inner : (i : ℕ) → i < 24 → let n = getD (getD table k []) i 0 in
@@ -134,7 +132,7 @@ module _ {rows : List (List ℕ)} {heights c at y : List ℕ} (e : Left rows hei
     peels-inner i h =
         slice-inner (getD at i 0) (getD heights i 0) (getD rows i []) (e .room .low i h) (wide i h)
         (getD (getD table k []) i 0) (bead c (i + 1) b) (stack c (i + 1) s) (bead c (i + 1) (undone b))
-        (e .beads i h ∙ peels-stack c (i + 1) w) (line-count i h) (line-undone i h)
+        (e .beads i h ∙ peels-stack c (i + 1) w) (line-letter i h) (line-undone i h)
 
     pub peels-movable : Movable (getD table k []) heights at
     peels-movable = (

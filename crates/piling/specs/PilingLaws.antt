@@ -9,18 +9,16 @@ use Rattle.words.specs.Trace.{Pick, First}
 use Rattle.words.specs.Reduce.{act}
 use Rattle.words.specs.ReduceLaws.{cut, put, act-is, act-falls}
 use Rattle.words.specs.Stack.{proj, mark}
-use Rattle.words.specs.StackLaws.{Marked, apart, own, other, marked, proj-length}
+use Rattle.words.specs.StackLaws.{proj-length}
 use Rattle.words.specs.StackLaws.{stack-push, stack-pick, stack-first, stack-top}
-use Rattle.catalogue.specs.Conflict.{conflict, bit}
-use Rattle.catalogue.specs.ConflictLaws.{conflict-refl, conflict-sym}
 use Rattle.plan.specs.Byte.{commandOf, undone}
 use Rattle.plan.specs.ByteLaws.{command-undone}
 use Rattle.plan.specs.Letters.{alphabet}
 use Rattle.piling.specs.Piling.{Piled, Counted}
 use Rattle.beads.specs.Heights.{Both, Changed}
-use Rattle.beads.specs.BeadsLaws.{Beads, Meets, aside, written, beads-split, beads-top, meets-add, meets-off}
+use Rattle.beads.specs.BeadsLaws.{Beads, Meets, written, beads-split, beads-top, meets-add, meets-off}
 use Rattle.beads.specs.BeadsLaws.{beads-fit, meets-length, meets-one}
-use Rattle.beads.specs.BeadsLaws as Beads
+use Rattle.beads.specs.LineLaws.{meets-line}
 use Rattle.piling.specs.Push.{Facing, Ready, Cancelled}
 
 -- the stack of command i + 1, bottom first
@@ -44,24 +42,6 @@ beads-piled {c} {z = z} t m b = record {
   height = λ i l. b i l .height ∙ length-reverse (proj (alphabet c) 0 (i + 1) z);
   above = λ i j l h. b i l .above j h;
 }
-
--- what a letter of command k + 1 puts on the stack of command i + 1, and how many beads that are
-meets-line : (c : List ℕ) (k b i n : ℕ) → commandOf b ≡ k + 1 → n ≡ bit (conflict c (k + 1) (i + 1))
-    → Meets k b i n (mark (alphabet c) 0 (i + 1) b)
-meets-line c k b i n e f = go (marked (alphabet c) 0 (i + 1) b)
-  where
-    count : (t : Bool) → conflict c (i + 1) (commandOf b) ≡ t → n ≡ bit t
-    count t q = f ∙ ap bit (conflict-sym c (k + 1) (i + 1) ∙ ap (conflict c (i + 1)) (sym e) ∙ q)
-
-    go : {m : List ℕ} → Marked (alphabet c) 0 (i + 1) b m → Meets k b i n m
-    go (apart q) =
-        let clash : i ≡ k → conflict c (i + 1) (i + 1) ≡ false
-        = λ s. ap (λ (j : ℕ). conflict c (i + 1) (j + 1)) s ∙ ap (conflict c (i + 1)) (sym e) ∙ q in
-        rw (count false q) (aside (λ s. true≢false (sym (conflict-refl c (i + 1)) ∙ clash s)))
-    go (own q) =
-        let s : i ≡ k = omega arith in
-        rw (count true (ap (conflict c (i + 1)) q ∙ conflict-refl c (i + 1)), s) Beads.own
-    go (other q o) = rw (count true q) (Beads.other (λ s. o (e ∙ ap (λ (j : ℕ). j + 1) (sym s))))
 
 module _ {c : List ℕ} {rows : List (List ℕ)} {heights line : List ℕ} {k letter : ℕ} {z : List ℕ}
     (r : Facing c rows heights line k letter z) where

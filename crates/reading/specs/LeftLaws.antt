@@ -33,6 +33,13 @@ mark-count c k b = go (conflict c k (commandOf b)) (eqb (commandOf b) k)
     go true false = refl
     go true true = refl
 
+-- how many beads a letter of command k + 1 puts on row i
+pub line-count : {c : List ℕ} {table : List (List ℕ)} (k b : ℕ) → Conflicts c table → k < 24 → commandOf b ≡ k + 1
+    → (i : ℕ) → i < 24 → getD (getD table k []) i 0 ≡ length (mark (alphabet c) 0 (i + 1) b)
+line-count {c} k b t l m i h =
+    t .tells k i l h ∙ ap bit (conflict-sym c (k + 1) (i + 1) ∙ ap (conflict c (i + 1)) (sym m))
+    ∙ sym (mark-count c (i + 1) b)
+
 module _ {rows : List (List ℕ)} {heights c at y : List ℕ} (e : Left rows heights c at y) where
   left-wide : (i : ℕ) → i < 24 → getD heights i 0 ≤ length (getD rows i [])
   left-wide i l = omega (arith, e .room .high i l, e .room .shape .wide i l)
@@ -80,15 +87,10 @@ module _ {rows : List (List ℕ)} {heights c at y : List ℕ} (e : Left rows hei
   -- taking a letter off
   module _ {table : List (List ℕ)} {k b : ℕ} {r : List ℕ} (t : Conflicts c table) (l : k < 24)
       (m : commandOf b ≡ k + 1) (p : Pick (alphabet c) b y r) where
-    -- how many beads it takes off row i
-    line-count : (i : ℕ) → i < 24 → getD (getD table k []) i 0 ≡ length (mark (alphabet c) 0 (i + 1) b)
-    line-count i h = t .tells k i l h ∙ ap bit (conflict-sym c (k + 1) (i + 1) ∙ ap (conflict c (i + 1)) (sym m))
-        ∙ sym (mark-count c (i + 1) b)
-
     line-low : (i : ℕ) → i < 24 → getD at i 0 + getD (getD table k []) i 0 ≤ getD heights i 0
     line-low i h = omega (
       arith,
-      line-count i h,
+      line-count k b t l m i h,
       left-count i h,
       ap length (e .beads i h ∙ proj-pick (alphabet c) 0 (i + 1) p),
       length-append (mark (alphabet c) 0 (i + 1) b) (proj (alphabet c) 0 (i + 1) r),
@@ -121,4 +123,4 @@ module _ {rows : List (List ℕ)} {heights c at y : List ℕ} (e : Left rows hei
             sym (drop-drop (getD (getD table k []) i 0) (getD at i 0) (take (getD heights i 0) (getD rows i [])))
             ∙ ap (drop (getD (getD table k []) i 0)) (e .beads i h ∙ proj-pick (alphabet c) 0 (i + 1) p)
             ∙ drop-at (mark (alphabet c) 0 (i + 1) b) (proj (alphabet c) 0 (i + 1) r) (getD (getD table k []) i 0)
-            (sym (line-count i h))
+            (sym (line-count k b t l m i h))

@@ -21,7 +21,8 @@ use Rattle.runs.specs.Runs.{Stacks}
 use Rattle.runs.specs.RunsLaws.{Topped, runs-letter, runs-topped, runs-count, runs-earlier}
 use Rattle.runs.specs.Moves.{Puttable, Put, Cuttable, Cut}
 use Rattle.beads.specs.BeadsLaws.{Meets}
-use Rattle.runs.specs.MeetsLaws.{meets-line, meets-put, meets-cut, meets-low}
+use Rattle.beads.specs.LineLaws.{meets-line}
+use Rattle.runs.specs.MeetsLaws.{meets-put, meets-cut, meets-low}
 
 -- line tells which commands conflict with command k + 1
 pub record Lined (c line : List ℕ) (k : ℕ) : Type 0 where
