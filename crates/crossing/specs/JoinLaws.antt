@@ -115,7 +115,9 @@ module _ {c : List ℕ} {conflicts : List (List ℕ)} {v w x g y h : List ℕ} {
       appended-take b (omega (arith, b .ends, undone-length h []))
       ∙ ap (λ (z : List ℕ). z ++ undoneBefore h []) (j .written ∙ ap (λ (z : List ℕ). z ++ u) (appended-take a m))
       ∙ append-assoc g u (undoneBefore h []) ∙ ap (λ (z : List ℕ). g ++ (u ++ z)) (undone-undo c h []) in
-      let s = through-short c (p .first .few) (p .first .passing) (p .second .passing) (k .first) (k .second) (j .joined) in
+      let s =
+      through-short c (p .first .few) (p .first .passing) (p .second .passing) (k .first) (k .second) (j .joined)
+      in
       let q : last ≡ length t = omega (
         arith,
         a .ends,
@@ -127,11 +129,16 @@ module _ {c : List ℕ} {conflicts : List (List ℕ)} {v w x g y h : List ℕ} {
         undo-length (alphabet c) h [],
       ) in
       record {
-        joined = sym (verdict c (p .first .few) (p .first .passing) (p .second .passing) (k .first) (k .second)) ∙ j .joined;
+        joined = sym (verdict c (p .first .few) (p .first .passing) (p .second .passing) (k .first) (k .second))
+            ∙ j .joined;
         count = q ∙ ap length (sym e);
-        letters = rw e (through-commands c (p .first .few) (p .first .passing) (p .second .passing) (k .first) (k .second) (j .joined));
+        letters = rw e
+            (through-commands c (p .first .few) (p .first .passing) (p .second .passing) (k .first) (k .second)
+            (j .joined));
         short = omega (arith, q, s);
-        leads = rw e (through-lead-in c (p .first .few) (p .first .passing) (p .second .passing) (k .first) (k .second) (j .joined));
+        leads = rw e
+            (through-lead-in c (p .first .few) (p .first .passing) (p .second .passing) (k .first) (k .second)
+            (j .joined));
       }
 
 -- what the way from core to core tells

@@ -28,8 +28,8 @@ fn same(
     comparing::equals(w, conflicts, rows, heights, n)
 }
 
-// Whether two plans have the same normal form. The shorter is piled up: where the lengths differ much, undoing the other
-// soon leaves too many letters.
+// Whether two plans have the same normal form. The shorter is piled up: where the lengths differ much, undoing the
+// other soon leaves too many letters.
 pub fn equal(v: &[u8], w: &[u8], conflicts: &[[u16; 24]; 24]) -> bool
     requires { ⌜ ((c : List ℕ) × Passed c (now conflicts) (now v) × Passed c (now conflicts) (now w)) ⌝ }
     ensures { λ r. ⌜ ((c : List ℕ) → Passed c (now (conflicts .entry)) (now (v .entry))

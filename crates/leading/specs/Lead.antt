@@ -40,8 +40,8 @@ pub record Two (c : List ℕ) (conflicts : List (List ℕ)) (x y labels : List �
   pub second : Labelled c conflicts y labels
   pub same : commands (alphabet c) x ≡ commands (alphabet c) y
 
--- one part: the apex is one of x, the rounds are as many as commands, and the row has room behind place `at` for what so
--- many rounds cycle of both
+-- one part: the apex is one of x, the rounds are as many as commands, and the row has room behind place `at` for what
+-- so many rounds cycle of both
 pub record Partable (c : List ℕ) (conflicts : List (List ℕ)) (x y labels : List ℕ) (apex rounds : ℕ)
     (row : List ℕ) (at : ℕ) : Type 0 where
   pub two : Two c conflicts x y labels

@@ -21,9 +21,9 @@ pub enum Outcome {
     Unsettled(u8),
 }
 
-// The way from a ring to another, behind the first bytes of the row: the ring up to the place at which the rings agree,
-// and the letters cycled, undone. Those stand in the row up to `at`; the ring's letters are put behind them, undone, and
-// then all of it is undone where it stands.
+// The way from a ring to another, behind the first bytes of the row: the ring up to the place at which the rings
+// agree, and the letters cycled, undone. Those stand in the row up to `at`; the ring's letters are put behind them,
+// undone, and then all of it is undone where it stands.
 fn join_rings(ring: &[u8], other: &[u8], row: &mut [u8], from: usize, at: usize) -> Outcome
     requires { ⌜ Turnable (now ring) (now row) from at ⌝ }
     ensures { λ r. ⌜ ((c cycled : List ℕ) → take at (now (row .entry)) ≡ take from (now (row .entry)) ++ cycled

@@ -1,5 +1,5 @@
--- What the lead-ins of all parts of two cores ask and give. They are written one after the other behind what stands in a
--- row.
+-- What the lead-ins of all parts of two cores ask and give. They are written one after the other behind what stands
+-- in a row.
 use Prim.Native.Nat.{ℕ, zero, suc, _+_, _*_, _≤_}
 use mathlib.Core.Path.{_≡_}
 use mathlib.Core.Bool.{true, false, _&&_}

@@ -13,7 +13,8 @@ ghost use Rattle.conjugacy.specs.Part.{apexes};
 ghost use Rattle.leading.specs.Lead.{Leads};
 ghost use Rattle.pairing.specs.Pair.{apexAt, Leadable, Placeable, Coreable, CoresLead};
 
-// The lead-in of the part of command k + 1, if it occurs and is the apex of its part, behind the first bytes of the row.
+// The lead-in of the part of command k + 1, if it occurs and is the apex of its part, behind the first bytes of the
+// row.
 fn join_at(
     x: &[u8],
     y: &[u8],

@@ -1,5 +1,5 @@
-// Sets of the commands 1 to 24. A set keeps for each command how many in the set it conflicts with: the set test, whether
-// a command is independent of every command in a set, is one look-up.
+// Sets of the commands 1 to 24. A set keeps for each command how many in the set it conflicts with: the set test,
+// whether a command is independent of every command in a set, is one look-up.
 
 use beads::lift;
 ghost use Prim.Native.Nat.{_<_};

@@ -32,8 +32,8 @@ module _ (c : tie.After-peel-if-arg) (k : List ℕ) where
       let h = piled .before .before in
       let r = h .before .before .before .blank-rows .ensures in
       let g = passed-given p r (h .before .before .blank-heights .ensures) in
-      passed-peelable p (here .args .lead .now) (piled .before .pile .ensures k g .piled) (piled .blank-heights2 .ensures)
-      (here .pre .2 .deep)
+      passed-peelable p (here .args .lead .now) (piled .before .pile .ensures k g .piled)
+      (piled .blank-heights2 .ensures) (here .pre .2 .deep)
 
 blank-rows-requires : tie.Need-blank-rows-requires
 blank-rows-requires c κs = search needs

@@ -21,7 +21,8 @@ returns : tie.Need-returns
 returns c =
     let s = c .before .before .before in
     λ k ls d.
-    then-more d (planLines (s .args .number) (s .args .limit) (commands k) (s .args .plan .now)) (c .enum-told .given .1)
+    then-more d (planLines (s .args .number) (s .args .limit) (commands k) (s .args .plan .now))
+    (c .enum-told .given .1)
 
 -- src/lib.rt:23:9
 check-requires : tie.Need-check-requires

@@ -83,7 +83,8 @@ slice-aggregate-form-of-4 c = search needs
 
 form-of-requires-2 : tie.Need-form-of-requires-2
 form-of-requires-2 c κs =
-    let s = c .before .before .before .before .before .before .before .before .before .before .before .before .before .before in
+    let f = c .before .before .before .before .before .before in
+    let s = f .before .before .before .before .before .before .before .before in
     let p = s .pre .1 .second in (
       s .pre .0,
       p,

@@ -48,7 +48,8 @@ one p k h = rings-of k _ _ _ _ _ _ _ (ringed p .ring-of .ensures k (first-asked 
 
 second-asked : (p : tie.After-first) (k : List ℕ) → Asked (ringed p) k
     → (let a = ringed p in let s = start a .args in
-    Ringable k (s .conflicts .now) (s .y .now) (s .labels .now) (s .apex) (s .rounds) (a .before .before .before .sheet2 .result)
+    Ringable k (s .conflicts .now) (s .y .now) (s .labels .now) (s .apex) (s .rounds)
+    (a .before .before .before .sheet2 .result)
     (a .ring-of .last .1 .1 .1 .1 .1 .1 .0) (p .first .given .0 .0 .cycled))
 second-asked p k h =
     let a = ringed p in

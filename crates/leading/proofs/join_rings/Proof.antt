@@ -1,5 +1,5 @@
--- The search tells where the rings agree, there is room for the ring up to there, undone, behind the letters cycled, and
--- both undone are the way. Assumes nothing.
+-- The search tells where the rings agree, there is room for the ring up to there, undone, behind the letters cycled,
+-- and both undone are the way. Assumes nothing.
 use Prim.Native.Nat.{ℕ}
 use mathlib.Core.Path.{_≡_}
 use mathlib.Core.List.{List, []}
