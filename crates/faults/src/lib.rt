@@ -1,0 +1,126 @@
+// A second opinion on refusals, for the bench cases: what is wrong with the input of a call, straight from the
+// specification's table. A refusal is an answer of 64 bytes with its number at place 63, its plan at 62 and its place
+// at 60 and 61, high byte first; the number is 0 where nothing is wrong.
+
+use rewriting::Word;
+use rewriting::at;
+use rewriting::blank;
+use rewriting::letter;
+use rewriting::walk;
+use rewriting::with;
+
+pub fn refusal(number: u8, plan: u8, place: usize) -> Word {
+    let high = with(blank(), 60, (place / 256 % 256) as u8);
+    let low = with(high, 61, (place % 256) as u8);
+    with(with(low, 62, plan), 63, number)
+}
+
+// The first answer where it is a refusal, or else the second.
+pub fn or(first: Word, second: Word) -> Word {
+    if letter(first, 63) != 0 {
+        first
+    } else {
+        second
+    }
+}
+
+// Line 1.
+fn wrong_size(c: &[u8]) -> bool {
+    c.len() != 2 + at(c, 0) as usize + 2 * (at(c, 1) as usize)
+}
+
+// What stands at place k of a catalogue: a head (1), the command of a record (2) or its next record (3).
+fn part(c: &[u8], k: usize) -> usize {
+    let records = 2 + at(c, 0) as usize;
+    if k < 2 || c.len() <= k {
+        0
+    } else if k < records {
+        1
+    } else {
+        2 + (k - records) % 2
+    }
+}
+
+// Line 3.
+fn wrong_index(c: &[u8], k: usize) -> bool {
+    part(c, k) % 2 == 1 && at(c, 1) < at(c, k)
+}
+
+// Line 4.
+fn wrong_command(c: &[u8], k: usize) -> bool {
+    part(c, k) == 2 && (at(c, k) == 0 || at(c, 0) < at(c, k))
+}
+
+// Line 5, where the goal is no head, and line 6, where it is the same head.
+fn wrong_chain(c: &[u8], k: usize, goal: usize) -> bool {
+    part(c, k) == 1 && walk(c, k, goal) != 0
+}
+
+// Line 8.
+fn wrong_byte(c: &[u8], b: u8) -> bool {
+    b == 128 || at(c, 0) < b % 128
+}
+
+// Does a line hold at place k of the catalogue (1 to 6) or of the plan (7 and 8).
+fn holds(c: &[u8], plan: &[u8], line: u8, k: usize) -> bool {
+    match line {
+        1 => wrong_size(c),
+        2 => 24 < at(c, 0),
+        3 => wrong_index(c, k),
+        4 => wrong_command(c, k),
+        5 => wrong_chain(c, k, 0),
+        6 => wrong_chain(c, k, k),
+        7 => 1024 < plan.len(),
+        _ => wrong_byte(c, at(plan, k)),
+    }
+}
+
+// The refusal by a line, at the first place at which it holds.
+fn refused_by(c: &[u8], plan: &[u8], line: u8, number: u8) -> Word {
+    let end = c.len() + plan.len();
+    let mut k: usize = 0;
+    while k < end && !holds(c, plan, line, k) {
+        k += 1;
+    }
+    if holds(c, plan, line, k) {
+        refusal(line, number, k)
+    } else {
+        blank()
+    }
+}
+
+// The refusal by the first that holds of some lines.
+fn refused(c: &[u8], plan: &[u8], line: u8, end: u8, number: u8) -> Word {
+    let mut found = blank();
+    let mut l = line;
+    while l < end {
+        let next = or(found, refused_by(c, plan, l, number));
+        found = next;
+        l += 1;
+    }
+    found
+}
+
+// Line 9, for an area of so many bytes for each command.
+fn small_area(room: usize, commands: usize, bytes: usize) -> Word {
+    if commands != 0 && room / commands < bytes {
+        refusal(9, 0, 0)
+    } else {
+        blank()
+    }
+}
+
+// Of a normal form or a core.
+pub fn of_form(c: &[u8], plan: &[u8], room: usize) -> Word {
+    let first = or(refused(c, plan, 1, 7, 0), refused(c, plan, 7, 9, 1));
+    or(first, small_area(room, 1, plan.len()))
+}
+
+// Of two loops.
+pub fn of_loops(c: &[u8], v: &[u8], w: &[u8], room: usize) -> Word {
+    let first = or(of_form(c, v, v.len()), refused(c, w, 7, 9, 2));
+    or(
+        first,
+        small_area(room, at(c, 0) as usize, v.len() + w.len()),
+    )
+}
