@@ -1,0 +1,73 @@
+// What the library answers.
+
+use crate::solver::verdict;
+use calls::Equality;
+use calls::LeadIn;
+use calls::Loops;
+use calls::Written;
+use refusal::Refusal;
+use rewriting::Word;
+use rewriting::at;
+use rewriting::blank;
+use rewriting::with;
+
+fn refused(refusal: Refusal) -> Word {
+    let reason = refusal.reason;
+    faults::refusal(refusal::number(reason), refusal.plan, refusal.place)
+}
+
+// The first letters of an area, behind their number.
+fn letters(area: &[u8], number: usize) -> Word {
+    let mut word = with(blank(), 0, (number % 256) as u8);
+    let mut i: usize = 0;
+    while i < 62 && i < number {
+        let next = with(word, i + 1, at(area, i));
+        word = next;
+        i += 1;
+    }
+    word
+}
+
+// Of a call that writes a normal form or a core to the area.
+pub fn written(answer: Written, area: &[u8]) -> Word {
+    match answer {
+        Written::Length(l) => letters(area, l),
+        Written::Refused(refusal) => refused(refusal),
+    }
+}
+
+// Of a comparison.
+pub fn compared(answer: Equality) -> Word {
+    match answer {
+        Equality::Yes => verdict(1),
+        Equality::No => verdict(0),
+        Equality::Refused(refusal) => refused(refusal),
+    }
+}
+
+// The length of the lead-in of two loops, if there is one.
+pub fn lead_in(answer: Loops) -> usize {
+    match answer {
+        Loops::Joined(l) => l,
+        Loops::Apart => 0,
+        Loops::Refused(_) => 0,
+    }
+}
+
+// Of two loops, whose lead-in leads from one to the other, or not.
+pub fn joined(answer: Loops, leads: bool) -> Word {
+    match answer {
+        Loops::Joined(_) => verdict(if leads { 1 } else { 2 }),
+        Loops::Apart => verdict(0),
+        Loops::Refused(refusal) => refused(refusal),
+    }
+}
+
+// Of a lead-in check.
+pub fn checked(answer: LeadIn) -> Word {
+    match answer {
+        LeadIn::Yes(_) => verdict(1),
+        LeadIn::No(_) => verdict(0),
+        LeadIn::Refused(refusal) => refused(refusal),
+    }
+}
