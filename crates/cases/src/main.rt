@@ -1,20 +1,99 @@
-// The bench cases of document 01, its edges and the slips seen on the bench, read as a table from standard input and
-// put to the library and to a solver written independently of it. A line a case: what the library says, then what the
-// solver says. A line of the table has a name, a call (normal, core, equal, loops, joins) and the plans, with ";"
-// between them. "@" brings the bytes of the area, "#" another catalogue than K, and "0 x5" is five zeros.
+// The bench cases of document 01, its edges and the slips seen on the bench, read as a table from standard input, then
+// every small plan under K, put to the library and to a solver written independently of it. A line a case: what the
+// library says, then what the solver says. The crate questions says what a line of the table looks like.
 
-mod answer;
 mod ask;
-mod case;
-mod every;
-mod read;
-mod show;
-mod table;
+
+ghost use Prim.Native.Nat.{_<_};
+ghost use mathlib.Core.Path.{_≡_};
+ghost use lib.ListN.{length};
+ghost use Rattle.io.specs.Counts.{Counts};
+use answers::solved;
+use questions::AREA;
+use questions::CATALOGUE;
+use questions::NAME;
+use questions::U;
+use questions::V;
+use questions::W;
+use questions::call;
+use questions::part;
+use questions::small;
+use rewriting::at;
+
+fn blank() -> [u8; 1100]
+    ensures { λ r. ⌜ 1100 ≡ length r ⌝ }
+{
+    [0; 1100]
+}
+
+// So many bytes, but no more than there are.
+fn within(n: usize, bytes: &[u8]) -> usize
+    ensures { λ r. ⌜ Counts r (now (bytes .entry)) ⌝ }
+{
+    if n < bytes.len() {
+        return n;
+    }
+    bytes.len()
+}
+
+// Puts a question to library and solver, and prints both answers if it has a name; do they agree.
+fn put(q: &[u8]) -> bool {
+    let c = part(q, CATALOGUE);
+    let v = part(q, V);
+    let w = part(q, W);
+    let u = part(q, U);
+    let mut area = blank();
+    let n = within(questions::size(q, AREA), &area);
+    let theirs = solved(call(q), c, v, w, u, n);
+    let ours = ask::asked(call(q), c, v, w, u, &mut area[..n]);
+    report::answers(part(q, NAME), call(q), ours, theirs)
+}
+
+// Every line of the table.
+fn table(text: &[u8]) {
+    let mut agree: usize = 0;
+    let mut cases: usize = 0;
+    let mut start: usize = 0;
+    while start < 4096 && at(text, start) != 0 {
+        agree += put(&questions::read(text, start)) as usize;
+        cases += 1;
+        start = questions::end(text, start) + 1;
+    }
+    report::count(agree, cases, b" cases agree\n");
+}
+
+// Plan number p of four bytes, in normal form and core, or the loops of pair number p of two bytes each.
+fn agree(pairs: bool, p: usize) -> bool {
+    if pairs {
+        put(&small(b'l', p, W))
+    } else {
+        put(&small(b'n', p, V)) && put(&small(b'c', p, V))
+    }
+}
+
+// On how many plans of four bytes, or pairs of two, they agree.
+fn every(pairs: bool) -> usize {
+    let mut count: usize = 0;
+    let mut p: usize = 0;
+    while p < 6561 {
+        count += agree(pairs, p) as usize;
+        p += 1;
+    }
+    count
+}
 
 fn main() {
     let mut text = io::buffer();
     let n = io::read_full(0, &mut text);
-    show::summary(table::each_line(&text[..n]));
-    every::plans();
-    every::loops();
+    table(&text[..n]);
+    report::count(
+        every(false),
+        6561,
+        b" plans of 4 bytes agree, in normal form and core\n",
+    );
+    report::count(
+        every(true),
+        6561,
+        b" pairs of plans of 2 bytes agree, joined or apart\n",
+    );
 }

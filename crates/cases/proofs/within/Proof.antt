@@ -3,8 +3,8 @@ use mathlib.Core.Path.{sym, ap}
 use native.Mathlib.Omega.{arith}
 use lib.ListN.{length}
 use lib.Seq.{length-take-le, take-length}
-use Rattle.cases.proofs.ask.within.Statement.{statement}
-use Rattle.cases.proofs.ask.within.Tie as tie
+use Rattle.cases.proofs.within.Statement.{statement}
+use Rattle.cases.proofs.within.Tie as tie
 
 returns : tie.Need-returns
 returns c =
