@@ -36,8 +36,8 @@ placed k j = go (ltb k j) refl (ltb j k) refl
     go false e true f = above (ltb→lt j k (subst T (sym f) tt))
     go false e false f = equal (omega (arith, at-least k j e, at-least j k f))
 
-insert-in-step : {i k j : ℕ} {js ks : List ℕ} {s t : Bool} → Placed k j s t → (i ≡ k) ⊎ (i ∈ j ∷ js) → (i ∈ js → i ∈ ks)
-    → (i ≡ k → i ∈ ks) → i ∈ insert-step s t k j js ks
+insert-in-step : {i k j : ℕ} {js ks : List ℕ} {s t : Bool} → Placed k j s t → (i ≡ k) ⊎ (i ∈ j ∷ js)
+    → (i ∈ js → i ∈ ks) → (i ≡ k → i ∈ ks) → i ∈ insert-step s t k j js ks
 unfolding insert-step
 insert-in-step (below l) (inl e) f g = List·Memᴰ·head e
 insert-in-step (below l) (inr m) f g = List·Memᴰ·tail m

@@ -111,7 +111,8 @@ module _ (Γ : Alphabet) where
 
     -- commands of one part and of others
     homes-apart : {m : ℕ} {ms : List ℕ} (u v : Word Γ) → All (λ j. m ≢ j) ms
-        → ((k : ℕ) → Occurs Γ k u → Occurs Γ k x × (lab k ≡ m)) → ((k : ℕ) → Occurs Γ k v → Occurs Γ k x × (lab k ∈ ms))
+        → ((k : ℕ) → Occurs Γ k u → Occurs Γ k x × (lab k ≡ m))
+        → ((k : ℕ) → Occurs Γ k v → Occurs Γ k x × (lab k ∈ ms))
         → Independent Γ u v
     homes-apart {m} {ms} u v n f g i j o p =
         let (oi, ei) = f i o in

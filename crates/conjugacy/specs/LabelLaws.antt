@@ -95,7 +95,8 @@ module _ (Γ : Alphabet) where
 
   -- across a conflicting pair whose labels become one
   bridge : {ks : List ℕ} {lab : ℕ → ℕ} → Labelled ks lab → (f : ℕ → Bool) (g : ℕ → ℕ) (i j p q : ℕ)
-      → i ∈ ks → j ∈ ks → p ∈ ks → q ∈ ks → conf i j ≡ true → g (lab i) ≡ g (lab j) → lab p ≡ lab i → lab q ≡ lab j
+      → i ∈ ks → j ∈ ks → p ∈ ks → q ∈ ks → conf i j ≡ true → g (lab i) ≡ g (lab j)
+      → lab p ≡ lab i → lab q ≡ lab j
       → f p ≡ true → f q ≡ false → Cut ks (λ k. g (lab k)) f (g (lab p))
   bridge {ks} {lab} h f g i j p q mi mj mp mq c e ep eq s t = go (f i) refl (f j) refl
     where

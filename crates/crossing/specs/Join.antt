@@ -57,6 +57,7 @@ Crossable conflicts x g y h n most area =
     × (n * (length v + length w) ≤ length area)
 
 -- for all plans with these cores the verdict and the final area
-abbrev pub Crossed : List (List ℕ) → List ℕ → List ℕ → List ℕ → List ℕ → ℕ → List ℕ → Outcome → List ℕ → Type 0
+abbrev pub Crossed : List (List ℕ) → List ℕ → List ℕ → List ℕ → List ℕ → ℕ → List ℕ → Outcome
+    → List ℕ → Type 0
 Crossed conflicts x g y h n area r after =
     (c v w : List ℕ) → Cores c conflicts v w x g y h n → Told c v w area r after

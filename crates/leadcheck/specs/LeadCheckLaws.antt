@@ -21,8 +21,8 @@ use Rattle.calls.specs.CallLaws.{compared}
 use Rattle.calls.specs.Loops.{checkLines, checkAnswer, checkArea0, checkArea1}
 
 -- the answer t and both areas afterwards
-abbrev pub CheckOutcome : List ℕ → List ℕ → List ℕ → List ℕ → List ℕ → List ℕ → Answer Answers.Checked → List ℕ → List ℕ
-    → Type 0
+abbrev pub CheckOutcome : List ℕ → List ℕ → List ℕ → List ℕ → List ℕ → List ℕ → Answer Answers.Checked
+    → List ℕ → List ℕ → Type 0
 CheckOutcome c v w u area0 area1 t after0 after1 =
     (t ≡ checkAnswer c v w u area0 area1)
     × (after0 ≡ checkArea0 c v w u area0 area1)

@@ -19,7 +19,8 @@ fn mark(a: usize, b: usize, rows: &mut [[u16; 24]; 24])
 
 // Marks that two commands conflict, and notes in row a of own that b stands in the chain of a.
 fn meet(a: usize, b: usize, rows: &mut [[u16; 24]; 24], own: &mut [[u16; 24]; 24])
-    requires { ⌜ Shape (now rows) ⌝ ∗ ⌜ Shape (now own) ⌝ ∗ ⌜ (1 ≤ a) × (a ≤ 24) ⌝ ∗ ⌜ (1 ≤ b) × (b ≤ 24) ⌝ }
+    requires { ⌜ Shape (now rows) ⌝ ∗ ⌜ Shape (now own) ⌝
+        ∗ ⌜ (1 ≤ a) × (a ≤ 24) ⌝ ∗ ⌜ (1 ≤ b) × (b ≤ 24) ⌝ }
     ensures { λ _. ⌜ now (rows .exit) ≡ pair (now (rows .entry)) a b ⌝ }
     ensures { λ _. ⌜ now (own .exit) ≡ note (now (own .entry)) a b ⌝ }
 {
@@ -30,7 +31,8 @@ fn meet(a: usize, b: usize, rows: &mut [[u16; 24]; 24], own: &mut [[u16; 24]; 24
 // Follows the chain of command a, of at most R records, and marks each command that it meets; which they are is also
 // noted in row a of own. Tells whether it ends.
 pub fn walk(c: &[u8], a: usize, rows: &mut [[u16; 24]; 24], own: &mut [[u16; 24]; 24]) -> bool
-    requires { ⌜ Sound (now c) ⌝ ∗ ⌜ Shape (now rows) ⌝ ∗ ⌜ Shape (now own) ⌝ ∗ ⌜ 1 ≤ a ⌝ ∗ ⌜ a ≤ commands (now c) ⌝ }
+    requires { ⌜ Sound (now c) ⌝ ∗ ⌜ Shape (now rows) ⌝ ∗ ⌜ Shape (now own) ⌝
+        ∗ ⌜ 1 ≤ a ⌝ ∗ ⌜ a ≤ commands (now c) ⌝ }
     ensures { λ r. ⌜ r ≡ ends (now (c .entry)) (records (now (c .entry))) (head (now (c .entry)) a) ⌝ }
     ensures { λ _. ⌜ now (rows .exit) ≡ pairs (now (rows .entry)) a (chain (now (c .entry)) a) ⌝ }
     ensures { λ _. ⌜ now (own .exit) ≡ notes (now (own .entry)) a (chain (now (c .entry)) a) ⌝ }
@@ -61,7 +63,8 @@ fn mark_if(flag: u16, a: usize, b: usize, rows: &mut [[u16; 24]; 24])
 
 // Marks command a as the chain in row b of own tells.
 pub fn mark_like(own: &[[u16; 24]; 24], b: usize, a: usize, rows: &mut [[u16; 24]; 24])
-    requires { ⌜ Shape (now own) ⌝ ∗ ⌜ Shape (now rows) ⌝ ∗ ⌜ (1 ≤ a) × (a ≤ 24) ⌝ ∗ ⌜ (1 ≤ b) × (b ≤ 24) ⌝ }
+    requires { ⌜ Shape (now own) ⌝ ∗ ⌜ Shape (now rows) ⌝
+        ∗ ⌜ (1 ≤ a) × (a ≤ 24) ⌝ ∗ ⌜ (1 ≤ b) × (b ≤ 24) ⌝ }
     ensures { λ _. ⌜ now (rows .exit) ≡ pairs (now (rows .entry)) a (members 0 (getD (now (own .entry)) (b - 1) [])) ⌝ }
 {
     let mut j = 0;

@@ -150,8 +150,8 @@ pub record Folding (f : List ℕ → (ℕ → ℕ) → ℕ → ℕ) (flags : Lis
   pub told : LabelsOf lab now
   pub leads : f (flaggedFrom flags j) lab ≡ f (flagged 1 flags) first
 
-pub fold-start : {f : List ℕ → (ℕ → ℕ) → ℕ → ℕ} {flags : List ℕ} {first : ℕ → ℕ} {now : List ℕ} → LabelsOf first now
-    → Folding f flags first now 0
+pub fold-start : {f : List ℕ → (ℕ → ℕ) → ℕ → ℕ} {flags : List ℕ} {first : ℕ → ℕ} {now : List ℕ}
+    → LabelsOf first now → Folding f flags first now 0
 fold-start {first = first} h = record { lab = first; told = h; leads = refl }
 
 flagged-next : (flags : List ℕ) (j : ℕ) → j < length flags
