@@ -1,12 +1,10 @@
 -- What the normal form of a long word asks and gives, where no rows are lent.
 use Prim.Native.Nat.{ℕ, _≤_}
-use mathlib.Core.Path.{_≡_}
 use mathlib.Core.List.{List}
-use native.Mathlib.Omega.{arith}
 use lib.ListN.{length}
 use Rattle.plan.specs.Letters.{letters}
 use Rattle.reduction.specs.Reducing.{Given}
-use Rattle.longform.specs.Form.{Room, Written}
+use Rattle.longform.specs.Form.{Written}
 
 -- a word of at most so many bytes, and an area with room for its letters
 pub record Formable (most : ℕ) (c : List ℕ) (conflicts : List (List ℕ)) (word area : List ℕ) : Type 0 where
@@ -17,17 +15,3 @@ pub record Formable (most : ℕ) (c : List ℕ) (conflicts : List (List ℕ)) (w
 -- for every catalogue of the conflicts the area now begins with the normal form of the word, r letters
 abbrev pub Formed : List (List ℕ) → List ℕ → List ℕ → List ℕ → ℕ → Type 0
 Formed conflicts word before after r = (c : List ℕ) → Given c conflicts word → Written c word before after r
-
--- two rows of so many links are enough
-pub formable-room : {most : ℕ} {c : List ℕ} {conflicts : List (List ℕ)} {word area under link : List ℕ}
-    → Formable most c conflicts word area → most ≡ length under → most ≡ length link → Room word under link area
-formable-room f u l = record {
-  unders = omega (arith, f .short);
-  links = omega (arith, f .short);
-  fits = f .fits;
-}
-
--- a limit that the word keeps
-pub formable-within : {most less : ℕ} {c : List ℕ} {conflicts : List (List ℕ)} {word area : List ℕ}
-    → length word ≤ less → Formable most c conflicts word area → Formable less c conflicts word area
-formable-within l f = record { given = f .given; short = l; fits = f .fits }

@@ -1,6 +1,6 @@
 -- `wordform::form` meets its contract: each branch has links for words of the length tested. Assumes nothing.
 use borrow.Author.Needs.{needs}
-use Rattle.wordform.specs.Forming.{formable-within}
+use Rattle.wordform.specs.FormingLaws.{formable-within}
 use Rattle.wordform.proofs.form.Statement.{statement}
 use Rattle.wordform.proofs.form.Tie as tie
 

@@ -1,6 +1,6 @@
 -- `wordform::form_50176` meets its contract: the links are as many as the word may have letters. Assumes nothing.
 use borrow.Author.Needs.{needs}
-use Rattle.wordform.specs.Forming.{formable-room}
+use Rattle.wordform.specs.FormingLaws.{formable-room}
 use Rattle.wordform.proofs.form_50176.Statement.{statement}
 use Rattle.wordform.proofs.form_50176.Tie as tie
 
