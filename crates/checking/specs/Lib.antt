@@ -1,3 +1,2 @@
 pub mod Checking
 pub mod CheckingLaws
-pub mod RowLaws

@@ -2,12 +2,11 @@
 // same.
 
 use row::append;
+use row::same_bytes;
 use wordform::form;
 ghost use Prim.Native.Nat.{ℕ, _+_, _≤_};
 ghost use mathlib.Core.Path.{_≡_};
-ghost use mathlib.Core.Bool.{true};
 ghost use mathlib.Core.List.{List};
-ghost use mathlib.Core.Logic.{_↔_};
 ghost use lib.ListN.{length};
 ghost use Rattle.checking.specs.Checking.{Joined, Factors, Multiplied, Checkable, CheckedIn};
 
@@ -57,23 +56,6 @@ fn product(first: &[u8], second: &[u8], conflicts: &[[u16; 24]; 24], area: &mut 
     }
     let mut row = row::blank_row();
     product_in(first, second, conflicts, &mut row, area)
-}
-
-// Whether two words are the same. The bits in which bytes differ are gathered, with no way out of the loop, so that
-// many bytes are compared at a time.
-fn same_bytes(a: &[u8], b: &[u8]) -> bool
-    ensures { λ r. ⌜ ((r ≡ true) ↔ (now (a .entry) ≡ now (b .entry))) ⌝ }
-{
-    if a.len() != b.len() {
-        return false;
-    }
-    let mut differ: u8 = 0;
-    let mut i = 0;
-    while i < a.len() {
-        differ |= a[i] ^ b[i];
-        i += 1;
-    }
-    differ == 0
 }
 
 // The lead-in check: the normal form of v·u is written at the start of area0, that of u·w at the start of area1.

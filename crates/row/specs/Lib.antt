@@ -1,3 +1,4 @@
+pub mod CompareLaws
 pub mod Row
 pub mod RowLaws
 pub mod UndoLaws

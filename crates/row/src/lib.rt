@@ -1,9 +1,11 @@
 // Long words built in a row: a word appended to what stands in it, as it is or undone, and a part of it undone where it
-// stands; and rows to work in.
+// stands; whether two words are the same; and rows to work in.
 
 use plan::undo;
 ghost use Prim.Native.Nat.{_+_, _≤_};
 ghost use mathlib.Core.Path.{_≡_};
+ghost use mathlib.Core.Bool.{true};
+ghost use mathlib.Core.Logic.{_↔_};
 ghost use lib.ListN.{length};
 ghost use Rattle.row.specs.Row.{Appended, Undone};
 ghost use Rattle.plan.specs.Letters.{undoneBefore};
@@ -51,6 +53,23 @@ pub fn undo_between(row: &mut [u8], from: usize, to: usize)
         row[j] = a;
         i += 1;
     }
+}
+
+// Whether two words are the same. The bits in which bytes differ are gathered, with no way out of the loop, so that
+// many bytes are compared at a time.
+pub fn same_bytes(a: &[u8], b: &[u8]) -> bool
+    ensures { λ r. ⌜ ((r ≡ true) ↔ (now (a .entry) ≡ now (b .entry))) ⌝ }
+{
+    if a.len() != b.len() {
+        return false;
+    }
+    let mut differ: u8 = 0;
+    let mut i = 0;
+    while i < a.len() {
+        differ |= a[i] ^ b[i];
+        i += 1;
+    }
+    differ == 0
 }
 
 // Rows to work in, for words of at most so many bytes.

@@ -1,12 +1,12 @@
--- `checking::same_bytes` meets its contract: `differ` is 0 as long as the bytes below i agree.
+-- `row::same_bytes` meets its contract: `differ` is 0 as long as the bytes below i agree.
 use Prim.Native.Nat.{_≤_, _-_}
 use mathlib.Core.Path.{_≡_}
 use native.Mathlib.Omega.{arith}
 use lib.ListN.{length}
 use lib.Seq.{take-all}
-use Rattle.checking.specs.RowLaws.{Compared, compared-start, compared-again, compared-end, lengths-differ}
-use Rattle.checking.proofs.same_bytes.Statement.{statement}
-use Rattle.checking.proofs.same_bytes.Tie as tie
+use Rattle.row.specs.CompareLaws.{Compared, compared-start, compared-again, compared-end, lengths-differ}
+use Rattle.row.proofs.same_bytes.Statement.{statement}
+use Rattle.row.proofs.same_bytes.Tie as tie
 
 abbrev Inv-loop : tie.InvT-loop
 Inv-loop a b differ₀ i₀ differ i = (i ≤ length a) × (length a ≡ length b) × Compared a b differ i
