@@ -4,14 +4,10 @@ use native.Mathlib.Omega.{arith}
 use native.Mathlib.Nat.{mul-le-mul-right, mul-add}
 use mathlib.Core.Path.{_≡_, refl, sym, _∙_, ap, subst, subst₂}
 use mathlib.Core.List.{List, [], _++_, append-assoc}
-use lib.ListN.{length, take, drop, length-append, length-take}
+use lib.ListN.{length, take, drop, length-take}
 use Rattle.words.specs.TraceLaws.{~-sym}
-use Rattle.words.specs.Group.{undo}
-use Rattle.words.specs.GroupLaws.{undo-length}
 use Rattle.conjugacy.specs.TurnLaws.{round-~}
 use Rattle.conjugacy.specs.CoreLaws.{core-round}
-use Rattle.conjugacy.specs.Part.{apexes}
-use Rattle.conjugacy.specs.LeadIn.{parts-lead}
 use Rattle.catalogue.specs.Catalogue.{commands}
 use Rattle.plan.specs.Letters.{letters, alphabet, undoneBefore, normalForm}
 use Rattle.plan.specs.LettersLaws.{letters-length, commands-passing}
@@ -27,10 +23,10 @@ use Rattle.leading.specs.Lead.{Stops}
 use Rattle.pairing.specs.Pair.{Coreable, CoresLed, CoresLead}
 use Rattle.leading.specs.TurnLaws.{undone-undo}
 use Rattle.engine.specs.Passed.{Passed}
-use Rattle.crossing.specs.VerdictLaws.{through}
+use Rattle.crossing.specs.VerdictLaws.{through, through-count}
 use Rattle.crossing.specs.Stripped.{Stripped}
 use Rattle.crossing.specs.StrippedLaws.{core-~, off-length, off-commands, no-letters, verdict}
-use Rattle.crossing.specs.StrippedLaws.{through-commands, through-room, through-short, through-lead-in}
+use Rattle.crossing.specs.StrippedLaws.{through-joined, through-commands, through-room, through-short, through-lead-in}
 use Rattle.crossing.specs.Join.{Plans, Cores, crossRoom, LeadWord, LeadsWord, Told, joined, apart}
 
 -- a plan's core is cyclically reduced
@@ -81,20 +77,10 @@ module _ {c : List ℕ} {conflicts : List (List ℕ)} {v w x g y h : List ℕ} {
     pub join-short : {row′ : List ℕ} {at end : ℕ} {row″ : List ℕ} → Appended row 0 g row′ at
         → CoresLed c x y row′ at row″ end → end + length h ≤ length row
     join-short a j =
-        let u = parts-lead (alphabet c) (apexes (alphabet c) x) x y in
         let t = through-room c (p .first .few) (p .first .passing) (p .second .passing) (k .first) (k .second)
-        (j .joined) in
-        let s = subst (λ m. length (through (alphabet c) g x y h) ≤ crossRoom m x g y h) (sym (p .many)) t in
-        omega (
-          arith,
-          a .ends,
-          j .ends,
-          s,
-          length-append g (u ++ undo (alphabet c) h []),
-          length-append u (undo (alphabet c) h []),
-          undo-length (alphabet c) h [],
-          r,
-        )
+        (j .leads) in
+        let s = subst (λ m. length (through (alphabet c) g (j .way) h) ≤ crossRoom m x g y h) (sym (p .many)) t in
+        omega (arith, a .ends, j .ends, s, through-count (alphabet c) g (j .way) h, r)
 
   -- the verdict, where there is no lead-in
   pub join-stop : (before : List ℕ) (at : ℕ) (after : List ℕ) (o : Outcome) → Stops o
@@ -109,36 +95,27 @@ module _ {c : List ℕ} {conflicts : List (List ℕ)} {v w x g y h : List ℕ} {
       → CoresLed c x y row′ at row″ end → Appended row″ end (undoneBefore h []) row‴ last
       → end + length h ≤ length row″ → LeadWord c v w row‴ last
   join-word {row} {row′} {row″} {row‴} {at} {end} {last} a m j b f =
-      let u = parts-lead (alphabet c) (apexes (alphabet c) x) x y in
-      let t = through (alphabet c) g x y h in
+      let u = j .way in
+      let t = through (alphabet c) g u h in
       let e : take last row‴ ≡ t =
       appended-take b (omega (arith, b .ends, undone-length h []))
       ∙ ap (λ (z : List ℕ). z ++ undoneBefore h []) (j .written ∙ ap (λ (z : List ℕ). z ++ u) (appended-take a m))
       ∙ append-assoc g u (undoneBefore h []) ∙ ap (λ (z : List ℕ). g ++ (u ++ z)) (undone-undo c h []) in
-      let s =
-      through-short c (p .first .few) (p .first .passing) (p .second .passing) (k .first) (k .second) (j .joined)
+      let s = through-short c (p .first .few) (p .first .passing) (p .second .passing) (k .first) (k .second) (j .leads)
       in
-      let q : last ≡ length t = omega (
-        arith,
-        a .ends,
-        j .ends,
-        b .ends,
-        undone-length h [],
-        length-append g (u ++ undo (alphabet c) h []),
-        length-append u (undo (alphabet c) h []),
-        undo-length (alphabet c) h [],
-      ) in
+      let q : last ≡ length t =
+      omega (arith, a .ends, j .ends, b .ends, undone-length h [], through-count (alphabet c) g u h) in
       record {
-        joined = sym (verdict c (p .first .few) (p .first .passing) (p .second .passing) (k .first) (k .second))
-            ∙ j .joined;
+        joined = through-joined c (p .first .few) (p .first .passing) (p .second .passing) (k .first) (k .second)
+            (j .leads);
         count = q ∙ ap length (sym e);
         letters = rw e
             (through-commands c (p .first .few) (p .first .passing) (p .second .passing) (k .first) (k .second)
-            (j .joined));
+            (j .leads));
         short = omega (arith, q, s);
         leads = rw e
             (through-lead-in c (p .first .few) (p .first .passing) (p .second .passing) (k .first) (k .second)
-            (j .joined));
+            (j .leads));
       }
 
 -- what the way from core to core tells

@@ -6,7 +6,7 @@ use mathlib.Core.Path.{_≡_, sym, _∙_, ap, subst}
 use mathlib.Core.Bool.{true}
 use mathlib.Core.List.{List}
 use lib.ListN.{length}
-use Rattle.words.specs.All.{All, all-map, all-along}
+use Rattle.words.specs.All.{all-along}
 use Rattle.words.specs.Trace as Trace
 use Rattle.words.specs.TraceLaws.{~-sym, ~-length}
 use Rattle.words.specs.Group as Group
@@ -20,24 +20,20 @@ use Rattle.conjugacy.specs.Core.{core}
 use Rattle.conjugacy.specs.CoreLaws.{core-reduced, core-conj, core-length, core-all}
 use Rattle.conjugacy.specs.ConjugateLaws.{conjugate-cores}
 use Rattle.conjugacy.specs.Decision.{cores-joined?, joined?}
-use Rattle.conjugacy.specs.DecisionLaws.{none-occur, lead-in-conj}
-use Rattle.conjugacy.specs.LeadIn.{lead-in}
+use Rattle.conjugacy.specs.DecisionLaws.{bound, none-occur, conjugate-joined}
 use Rattle.catalogue.specs.Catalogue.{commands}
 use Rattle.plan.specs.Plan.{isCommand, Passing}
-use Rattle.plan.specs.Byte.{commandOf}
-use Rattle.plan.specs.CommandLaws.{command-range, isCommand-undone}
+use Rattle.plan.specs.CommandLaws.{isCommand-undone}
 use Rattle.plan.specs.Letters.{letters, alphabet, normalForm}
-use Rattle.plan.specs.LettersLaws.{Commands, letters-commands, letters-length, letters-same, commands-passing}
+use Rattle.plan.specs.LettersLaws.{Commands, commands-range, commands-passing}
+use Rattle.plan.specs.LettersLaws.{letters-commands, letters-length, letters-same}
 use Rattle.plan.specs.NormalFormLaws.{normal-letters, normal-passing}
 use Rattle.plan.specs.JoinLaws.{joins-words}
 use Rattle.calls.specs.Calls.{coreForm}
 use Rattle.calls.specs.Loops.{LeadIn, leadInRoom}
+use Rattle.pairing.specs.Pair.{Way}
 use Rattle.crossing.specs.Stripped.{Stripped}
-use Rattle.crossing.specs.VerdictLaws.{cores-verdict, through, through-conj, through-length, through-all}
-
--- the commands of letters that pass are among 1 to N
-pub commands-range : (n : ℕ) (x : List ℕ) → n ≤ 24 → Commands n x → All (λ a. (1 ≤ commandOf a) × (commandOf a ≤ n)) x
-commands-range n x l h = all-map (λ a e. command-range n a (omega arith) e) x h
+use Rattle.crossing.specs.VerdictLaws.{cores-verdict, through, through-conj, through-count, through-all}
 
 module _ (c : List ℕ) where
   infix 20 _~_ _≈_
@@ -99,54 +95,58 @@ module _ (c : List ℕ) where
     pub verdict : cores-joined? (alphabet c) x y ≡ joined? (alphabet c) (letters v) (letters w)
     verdict = cores-verdict (alphabet c) (letters v) (letters w) x y (core-~ k) (core-~ l)
 
-    module _ (t : cores-joined? (alphabet c) x y ≡ true) where
-      abbrev u : List ℕ
-      u = through (alphabet c) g x y h
+    -- where a way leads from core to core, so does one from plan to plan
+    module _ {u : List ℕ} (q : Way c x y u) where
+      abbrev t : List ℕ
+      t = through (alphabet c) g u h
+
+      conjugates : conj (alphabet c) t (letters v) ≈ letters w
+      conjugates = through-conj (alphabet c) g u h (letters v) (letters w) (off-conj k) (q .leads) (off-conj l)
+
+      pub through-joined : joined? (alphabet c) (letters v) (letters w) ≡ true
+      through-joined = conjugate-joined (alphabet c) t (letters v) (letters w) conjugates
 
       same-length : length x ≡ length y
       same-length =
-          let s = lead-in-conj (alphabet c) (letters v) (letters w) (sym verdict ∙ t) in
-          let e = turns-length (alphabet c) (conjugate-cores (alphabet c)
-          (lead-in (alphabet c) (letters v) (letters w)) (letters v) (letters w) s) in
+          let e = turns-length (alphabet c) (conjugate-cores (alphabet c) t (letters v) (letters w) conjugates) in
           ~-length (alphabet c) (core-~ k) ∙ e ∙ sym (~-length (alphabet c) (core-~ l))
 
-      pub through-commands : Commands (commands c) u
+      pub through-commands : Commands (commands c) t
       through-commands =
-          let (a, i) = off-commands k pv in
-          let (b, j) = off-commands l pw in
           through-all (alphabet c) (λ b. isCommand (commands c) b ≡ true)
-          (λ b e. isCommand-undone (commands c) b ∙ e) g h x y t a b i j
+          (λ b e. isCommand-undone (commands c) b ∙ e) g u h (off-commands k pv .0) (q .letters) (off-commands l pw .0)
 
-      pub through-room : length u ≤ commands c * ((2 * length g + length x) + (2 * length h + length y))
+      pub through-room : length t ≤ commands c * ((2 * length g + length x) + (2 * length h + length y))
       through-room =
-          through-length (alphabet c) (commands c) (2 * length g + length x) (2 * length h + length y) g h x y t
-          same-length (commands-range (commands c) x few (off-commands k pv .1)) no-letters (omega arith) (omega arith)
+          let b = bound (commands c) (length g) (length h) (length x) (2 * length g + length x)
+          (2 * length h + length y) (length u) no-letters (omega arith) (omega (arith, same-length)) (q .short) in
+          omega (arith, b, through-count (alphabet c) g u h)
 
-      pub through-short : length u ≤ leadInRoom c v w
+      pub through-short : length t ≤ leadInRoom c v w
       through-short =
           let e : (2 * length g + length x) + (2 * length h + length y) ≤ length v + length w =
           omega (arith, off-length k, off-length l, letters-length v, letters-length w) in
           omega (arith, through-room, mul-le-mul-left (commands c) e)
 
-      pub through-lead-in : LeadIn c v w (normalForm c u)
+      pub through-lead-in : LeadIn c v w (normalForm c t)
       unfolding normalForm
       through-lead-in =
-          let pu = commands-passing (commands c) u through-commands in
-          let e : letters u ≡ u = letters-same (commands c) u through-commands in
-          let f : letters (normalForm c u) ≡ normalForm c u = normal-letters c u pu in
-          let d : conj (alphabet c) (letters (normalForm c u)) (letters v) ≈ letters w =
-          rw f (then (≈-conj-by (alphabet c) (then (nf-≈ (alphabet c) (letters u)) (≈-of-≡ (alphabet c) e)) (letters v))
-          (through-conj (alphabet c) g h (letters v) (letters w) x y (off-conj k) (off-conj l) t)) in
+          let pt = commands-passing (commands c) t through-commands in
+          let e : letters t ≡ t = letters-same (commands c) t through-commands in
+          let f : letters (normalForm c t) ≡ normalForm c t = normal-letters c t pt in
+          let d : conj (alphabet c) (letters (normalForm c t)) (letters v) ≈ letters w =
+          rw f (then (≈-conj-by (alphabet c) (then (nf-≈ (alphabet c) (letters t)) (≈-of-≡ (alphabet c) e)) (letters v))
+          conjugates) in
           record {
             normal = ap (nf (alphabet c)) f
-                ∙ nf-fixed (alphabet c) (normalForm c u) (nf-reduced (alphabet c) (letters u))
-                (nf-ordered (alphabet c) (letters u));
-            joins = joins-words c v w (normalForm c u) pv pw (normal-passing c u pu) .1 d;
+                ∙ nf-fixed (alphabet c) (normalForm c t) (nf-reduced (alphabet c) (letters t))
+                (nf-ordered (alphabet c) (letters t));
+            joins = joins-words c v w (normalForm c t) pv pw (normal-passing c t pt) .1 d;
             short = omega (
               arith,
-              nf-length (alphabet c) (letters u),
-              reduce-length (alphabet c) (letters u),
-              letters-length u,
+              nf-length (alphabet c) (letters t),
+              reduce-length (alphabet c) (letters t),
+              letters-length t,
               through-short,
             );
           }

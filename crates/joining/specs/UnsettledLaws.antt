@@ -19,9 +19,8 @@ use Rattle.catalogue.specs.Catalogue as Catalogue
 use Rattle.plan.specs.Plan.{isCommand, Passing}
 use Rattle.plan.specs.Byte.{commandOf}
 use Rattle.plan.specs.Letters.{letters, alphabet}
-use Rattle.plan.specs.LettersLaws.{letters-commands}
+use Rattle.plan.specs.LettersLaws.{commands-range, letters-commands}
 use Rattle.calls.specs.Loops.{isEmpty, stillLow, unsettled, unsettledLine}
-use Rattle.crossing.specs.StrippedLaws.{commands-range}
 
 module _ (c : List ℕ) (n : ℕ) (x : List ℕ) (h : All (λ a. (1 ≤ commandOf a) × (commandOf a ≤ n)) x) where
   -- no part has more than n commands

@@ -9,12 +9,14 @@ use Rattle.conjugacy.specs.Part.{commands, labels, label, apexes}
 use Rattle.conjugacy.specs.PartLaws.{label-same}
 use Rattle.conjugacy.specs.Decision.{alike?, parts-joined?, cores-joined?}
 use Rattle.conjugacy.specs.DecisionLaws.{alike-true, alike-refl}
+use Rattle.conjugacy.specs.LeadIn.{parts-lead}
 use Rattle.ringing.specs.PartLaws.{not-true}
 use Rattle.parts.specs.Flags.{Flags, LabelsOf}
 use Rattle.leading.specs.declared.Outcome.{Outcome}
 use Rattle.leading.specs.declared.Outcome.the-variants.{Joined, Apart, Unsettled}
 use Rattle.leading.specs.Lead.{Leads}
 use Rattle.pairing.specs.Pair.{Leadable, Coreable, CoresLead}
+use Rattle.pairing.specs.WayLaws.{parts-way}
 
 not-false : (t : Bool) → not t ≡ false → t ≡ true
 not-false true e = refl
@@ -62,6 +64,11 @@ module _ {c : List ℕ} {conflicts : List (List ℕ)} {x y : List ℕ} {rounds :
 
     pub cores-lead : (after : List ℕ) (o : Outcome) → Leads c x y (apexes (alphabet c) x) row at after o
         → CoresLead c x y row at after o
-    cores-lead after (Joined end) d = record { joined = decided ∙ d .joined; written = d .written; ends = d .ends }
+    cores-lead after (Joined end) d = record {
+      way = parts-lead (alphabet c) (apexes (alphabet c) x) x y;
+      leads = parts-way (h .first) (h .second) (decided ∙ d .joined);
+      written = d .written;
+      ends = d .ends;
+    }
     cores-lead after Apart d = decided ∙ d
     cores-lead after (Unsettled p) d = d

@@ -1,5 +1,6 @@
-pub mod Pair
 pub mod ApexLaws
-pub mod SofarLaws
-pub mod PlaceLaws
 pub mod CoreLaws
+pub mod Pair
+pub mod PlaceLaws
+pub mod SofarLaws
+pub mod WayLaws

@@ -7,11 +7,12 @@ use mathlib.Core.List.{List, [], _++_}
 use lib.ListN.{length, take, getD}
 use lib.Dec.{eqb}
 use Rattle.catalogue.specs.Catalogue as Catalogue
+use Rattle.words.specs.Group.{_≈_, conj}
 use Rattle.plan.specs.Letters.{alphabet}
+use Rattle.plan.specs.LettersLaws.{Commands}
 use Rattle.conjugacy.specs.Part.{chosen-step, commands, label, apexes}
 use Rattle.conjugacy.specs.PartLaws.{shares}
 use Rattle.conjugacy.specs.Decision.{cores-joined?}
-use Rattle.conjugacy.specs.LeadIn.{parts-lead}
 use Rattle.parts.specs.Flags.{Flags}
 use Rattle.ringing.specs.Ring.{Cyclic}
 use Rattle.leading.specs.declared.Outcome.{Outcome}
@@ -49,11 +50,19 @@ pub record Coreable (c : List ℕ) (conflicts : List (List ℕ)) (x y : List ℕ
   pub enough : rounds ≡ Catalogue.commands c
   pub room : at + rounds * (length x + length y) ≤ length row
 
--- the cores are joined, and behind the first `at` bytes now stand the lead-ins of their parts, up to `end`
+-- u leads from core x to core y, in commands of the catalogue. Its letters and those of x are at most 2N times as many
+-- as those of x.
+pub record Way (c x y u : List ℕ) : Type 0 where
+  pub leads : _≈_ (alphabet c) (conj (alphabet c) u x) y
+  pub letters : Commands (Catalogue.commands c) u
+  pub short : length u + length x ≤ (2 * Catalogue.commands c) * length x
+
+-- behind the first `at` bytes now stands a way from one core to the other, up to `end`
 pub record CoresLed (c x y before : List ℕ) (at : ℕ) (after : List ℕ) (end : ℕ) : Type 0 where
-  pub joined : cores-joined? (alphabet c) x y ≡ true
-  pub written : take end after ≡ take at before ++ parts-lead (alphabet c) (apexes (alphabet c) x) x y
-  pub ends : end ≡ at + length (parts-lead (alphabet c) (apexes (alphabet c) x) x y)
+  pub way : List ℕ
+  pub leads : Way c x y way
+  pub written : take end after ≡ take at before ++ way
+  pub ends : end ≡ at + length way
 
 abbrev pub CoresLead : List ℕ → List ℕ → List ℕ → List ℕ → ℕ → List ℕ → Outcome → Type 0
 CoresLead c x y before at after (Joined end) = CoresLed c x y before at after end

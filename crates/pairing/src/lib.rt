@@ -5,6 +5,7 @@ use leading::join_part;
 use parts::labels;
 use parts::occurring;
 use parts::same_commands;
+use row::same_bytes;
 ghost use Prim.Native.Nat.{ℕ, _+_, _*_, _<_, _≤_};
 ghost use mathlib.Core.List.{List};
 ghost use lib.ListN.{length};
@@ -76,8 +77,8 @@ fn join_parts(
     Outcome::Joined(end)
 }
 
-// The lead-in from one core to another, behind the first bytes of the row. Cores in which other commands occur are
-// apart.
+// The lead-in from one core to another, behind the first bytes of the row: none where they are the same. Cores in which
+// other commands occur are apart.
 pub fn join_cores(
     x: &[u8],
     y: &[u8],
@@ -91,6 +92,9 @@ pub fn join_cores(
         → Coreable c (now (conflicts .entry)) (now (x .entry)) (now (y .entry)) rounds (now (row .entry)) at
         → CoresLead c (now (x .entry)) (now (y .entry)) (now (row .entry)) at (now (row .exit)) r) ⌝ }
 {
+    if same_bytes(x, y) {
+        return Outcome::Joined(at);
+    }
     let flags = occurring(x);
     let others = occurring(y);
     if !same_commands(&flags, &others) {

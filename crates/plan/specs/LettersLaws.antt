@@ -7,12 +7,12 @@ use native.Mathlib.Omega.{arith}
 use lib.ListN.{length}
 use lib.Dec.{eqb}
 use borrow.Author.Tests.{eqb-true, eq-eqb}
-use Rattle.words.specs.All.{All}
+use Rattle.words.specs.All.{All, all-map}
 use Rattle.words.specs.Group as Group
 use Rattle.plan.specs.Plan.{isCommand, Passing}
-use Rattle.plan.specs.Byte.{undone}
+use Rattle.plan.specs.Byte.{undone, commandOf}
 use Rattle.plan.specs.ByteLaws.{true-same, undone-undone, undone-zero}
-use Rattle.plan.specs.CommandLaws.{command-nonzero, command-passes, passes-command}
+use Rattle.plan.specs.CommandLaws.{command-nonzero, command-passes, passes-command, command-range}
 use Rattle.plan.specs.Letters.{letters, letters-step, alphabet, undoneBefore}
 
 -- every letter is a command or undo
@@ -69,6 +69,10 @@ letters-commands n (b ∷ v) h = go (eqb b 0) refl (letters-commands n v (h .1))
     go : (t : Bool) → eqb b 0 ≡ t → Commands n (letters v) → Commands n (letters-step t b (letters v))
     go true e k = k
     go false e k = (passes-command n b (h .0) e, k)
+
+-- its commands are among 1 to N
+pub commands-range : (n : ℕ) (x : List ℕ) → n ≤ 24 → Commands n x → All (λ a. (1 ≤ commandOf a) × (commandOf a ≤ n)) x
+commands-range n x l h = all-map (λ a e. command-range n a (omega arith) e) x h
 
 -- a word of commands passes, and it is its own word
 pub commands-passing : (n : ℕ) (v : List ℕ) → Commands n v → Passing n v
