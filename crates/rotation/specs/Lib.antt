@@ -1,2 +1,4 @@
+pub mod Stride
+pub mod StrideLaws
 pub mod Told
 pub mod SearchLaws

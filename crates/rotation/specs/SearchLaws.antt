@@ -2,14 +2,18 @@
 use Prim.Native.Nat.{ℕ, _+_, _-_, _<_, _≤_, max}
 use native.Mathlib.Omega.{arith}
 use mathlib.Core.Path.{_≡_, refl, sym, _∙_, ap, subst}
+use mathlib.Core.Bool.{Bool, true, false}
 use mathlib.Core.List.{List, _++_}
 use mathlib.Core.Option.{Option, none, some}
 use borrow.Author.Count.{below-more}
+use borrow.Author.Tests.{ltb-true, ltb-false}
+use lib.Dec.{ltb}
 use lib.ListN.{length, getD, take, drop, length-append, length-take, length-drop, List·getD-append}
 use lib.Seq.{getD-drop, getD-take, getD-append-add, ext-getD}
 use Rattle.plan.specs.Letters.{alphabet}
 use Rattle.conjugacy.specs.Rotation.{rotation, Rotated}
 use Rattle.conjugacy.specs.RotationLaws.{rotation-some, rotation-none, rotate-rotated, rotated-length}
+use Rattle.rotation.specs.Stride.{Ahead, Stride}
 
 -- r read round, from place i on; the alphabet makes no difference
 abbrev pub turned : ℕ → List ℕ → List ℕ
@@ -107,21 +111,29 @@ module _ {r t : List ℕ} where
     }
 
   module _ {i j : ℕ} (a : Agreed r t i j) where
-    -- one letter more, or the next place
-    agreed-more : j < length r → getD (turned i r) j 0 ≡ getD t j 0 → Agreed r t i (j + 1)
-    agreed-more l e = record {
+    -- n letters more, or the next place
+    agreed-more : (n : ℕ) → j + n ≤ length r
+        → ((k : ℕ) → k < n → getD (turned i r) (j + k) 0 ≡ getD t (j + k) 0) → Agreed r t i (j + n)
+    agreed-more n l e = record {
       passed = a .passed;
       inside = a .inside;
-      within = omega arith;
-      agree = below-more _ j (a .agree) e;
+      within = l;
+      agree = λ k h. go k h (ltb k j) refl;
     }
+      where
+        go : (k : ℕ) → k < j + n → (b : Bool) → ltb k j ≡ b → getD (turned i r) k 0 ≡ getD t k 0
+        go k h true o = a .agree k (ltb-true k j o)
+        go k h false o =
+            let m : j ≤ k = ltb-false k j o in
+            let x : j + (k - j) ≡ k = omega arith in
+            rw x at (e (k - j) (omega arith))
 
-    agreed-less : ¬ (getD (turned i r) j 0 ≡ getD t j 0) → Passed r t (i + 1)
+    agreed-less : ¬ (turned i r ≡ t) → Passed r t (i + 1)
     agreed-less n = record {
       even = a .passed .even;
       filled = a .passed .filled;
       within = omega (arith, a .inside);
-      apart = below-more _ i (a .passed .apart) (λ e. n (ap (λ (x : List ℕ). getD x j 0) e));
+      apart = below-more _ i (a .passed .apart) n;
     }
 
     agreed-all : length r ≤ j → (c : List ℕ) → some i ≡ rotation (alphabet c) r t
@@ -146,18 +158,30 @@ pub near-start : {r t : List ℕ} {i : ℕ} → Passed r t i → ¬ (i ≡ lengt
 near-start p n = record { whole = omega (arith, p .within); low = omega arith; agreed = agreed-start p n }
 
 module _ {r t : List ℕ} {rest i j : ℕ} (n : Near r t rest i j) where
-  near-at : j < rest → getD (turned i r) j 0 ≡ getD r (i + j) 0
-  near-at l = turned-near r i (omega (arith, n .whole)) j (omega (arith, n .whole))
+  near-at : (k : ℕ) → k < rest - j → getD (turned i r) (j + k) 0 ≡ getD r (i + j + k) 0
+  near-at k l =
+      let e : i + (j + k) ≡ i + j + k = omega arith in
+      turned-near r i (omega (arith, n .whole)) (j + k) (omega (arith, n .whole)) ∙ ap (λ m. getD r m 0) e
 
-  pub near-more : j < rest → getD r (i + j) 0 ≡ getD t j 0 → Near r t rest i (j + 1)
-  near-more l e = record {
-    whole = n .whole;
-    low = omega arith;
-    agreed = agreed-more (n .agreed) (omega (arith, n .whole)) (near-at l ∙ e);
+  pub near-ahead : j < rest → Ahead r (i + j) t j (rest - j)
+  near-ahead l = record {
+    some = omega arith;
+    first = omega (arith, n .whole);
+    second = omega (arith, n .whole, n .agreed .passed .even);
   }
 
-  pub near-less : j < rest → ¬ (getD r (i + j) 0 ≡ getD t j 0) → Passed r t (i + 1)
-  near-less l o = agreed-less (n .agreed) (λ e. o (sym (near-at l) ∙ e))
+  module _ {m : ℕ} (s : Stride r (i + j) t j (rest - j) m) where
+    pub near-more : Near r t rest i (j + m)
+    near-more = record {
+      whole = n .whole;
+      low = omega (arith, n .low, s .within);
+      agreed = agreed-more (n .agreed) m (omega (arith, n .whole, n .low, s .within))
+          (λ k l. near-at k (omega (arith, s .within)) ∙ s .agree k l);
+    }
+
+    pub near-less : m ≡ 0 → Passed r t (i + 1)
+    near-less z = agreed-less (n .agreed)
+        (λ e. s .differ z (λ k l. sym (near-at k l) ∙ ap (λ (x : List ℕ). getD x (j + k) 0) e))
 
   pub near-far : rest ≤ j → Far r t rest i 0
   near-far l =
@@ -165,22 +189,33 @@ module _ {r t : List ℕ} {rest i j : ℕ} (n : Near r t rest i j) where
       record { whole = n .whole; low = omega arith; agreed = rw e at (n .agreed) }
 
 module _ {r t : List ℕ} {rest i k : ℕ} (f : Far r t rest i k) where
-  far-at : k < i → getD (turned i r) (rest + k) 0 ≡ getD r k 0
-  far-at l =
-      let e : rest ≡ length r - i = omega (arith, f .whole) in
-      rw e (turned-far r i (omega (arith, f .whole)) k l)
+  far-at : (j : ℕ) → j < i - k → getD (turned i r) (rest + k + j) 0 ≡ getD r (k + j) 0
+  far-at j l =
+      let e : rest + k + j ≡ length r - i + (k + j) = omega (arith, f .whole) in
+      ap (λ m. getD (turned i r) m 0) e ∙ turned-far r i (omega (arith, f .whole)) (k + j) (omega arith)
 
-  pub far-more : k < i → getD r k 0 ≡ getD t (rest + k) 0 → Far r t rest i (k + 1)
-  far-more l e =
-      let x : rest + k + 1 ≡ rest + (k + 1) = omega arith in
-      record {
-        whole = f .whole;
-        low = omega arith;
-        agreed = rw x at (agreed-more (f .agreed) (omega (arith, f .whole)) (far-at l ∙ e));
-      }
+  pub far-ahead : k < i → Ahead r k t (rest + k) (i - k)
+  far-ahead l = record {
+    some = omega arith;
+    first = omega (arith, f .whole);
+    second = omega (arith, f .whole, f .agreed .passed .even);
+  }
 
-  pub far-less : k < i → ¬ (getD r k 0 ≡ getD t (rest + k) 0) → Passed r t (i + 1)
-  far-less l o = agreed-less (f .agreed) (λ e. o (sym (far-at l) ∙ e))
+  module _ {m : ℕ} (s : Stride r k t (rest + k) (i - k) m) where
+    pub far-more : Far r t rest i (k + m)
+    far-more =
+        let x : rest + k + m ≡ rest + (k + m) = omega arith in
+        record {
+          whole = f .whole;
+          low = omega (arith, f .low, s .within);
+          agreed = rw x at
+              (agreed-more (f .agreed) m (omega (arith, f .whole, f .low, s .within))
+              (λ j l. far-at j (omega (arith, s .within)) ∙ s .agree j l));
+        }
+
+    pub far-less : m ≡ 0 → Passed r t (i + 1)
+    far-less z = agreed-less (f .agreed)
+        (λ e. s .differ z (λ j l. sym (far-at j l) ∙ ap (λ (x : List ℕ). getD x (rest + k + j) 0) e))
 
   pub far-all : i ≤ k → (c : List ℕ) → some i ≡ rotation (alphabet c) r t
   far-all l = agreed-all (f .agreed) (omega (arith, f .whole))

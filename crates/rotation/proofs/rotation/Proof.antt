@@ -4,7 +4,8 @@ use Prim.Native.Nat.{_-_}
 use native.Mathlib.Omega.{arith}
 use lib.ListN.{length}
 use Rattle.rotation.specs.SearchLaws.{Passed, Near, Far, rotation-uneven, empty-at, passed-start, passed-all}
-use Rattle.rotation.specs.SearchLaws.{near-start, near-more, near-less, near-far, far-more, far-less, far-all}
+use Rattle.rotation.specs.SearchLaws.{near-start, near-ahead, near-more, near-less, near-far}
+use Rattle.rotation.specs.SearchLaws.{far-ahead, far-more, far-less, far-all}
 use Rattle.rotation.proofs.rotation.Statement.{statement}
 use Rattle.rotation.proofs.rotation.Tie as tie
 
@@ -27,12 +28,14 @@ abbrev μ-starts : tie.MeasureT-starts
 μ-starts ring other n i₀ i = length ring - i
 
 returns : tie.Need-returns Inv-loop μ-loop Inv-loop2 μ-loop2 Inv-starts μ-starts
-returns c = λ k. rotation-uneven k (c .before .args .ring .now) (c .before .args .other .now) (c .if1 .taken)
+returns c =
+    let a = c .before .before .before .args in
+    λ k. rotation-uneven k (a .ring .now) (a .other .now) (c .if1 .taken)
 
 returns-2 : tie.Need-returns-2 Inv-loop μ-loop Inv-loop2 μ-loop2 Inv-starts μ-starts
-returns-2 c = λ k.
-    let a = c .before .before .args in
-    empty-at k (a .ring .now) (a .other .now) (c .before .if1 .left) (c .if2 .taken)
+returns-2 c =
+    let a = c .before .before .before .before .args in
+    λ k. empty-at k (a .ring .now) (a .other .now) (c .before .if1 .left) (c .if2 .taken)
 
 starts-holds : tie.Need-starts-holds Inv-loop μ-loop Inv-loop2 μ-loop2 Inv-starts μ-starts
 starts-holds c = passed-start (c .before .if1 .left) (c .if2 .left)
@@ -43,16 +46,14 @@ sub-rest c = omega arith
 loop-holds : tie.Need-loop-holds Inv-loop μ-loop Inv-loop2 μ-loop2 Inv-starts μ-starts
 loop-holds c = near-start (c .before .starts .inv) (c .if3 .left)
 
-add-if4 : tie.Need-add-if4 Inv-loop μ-loop Inv-loop2 μ-loop2 Inv-starts μ-starts
-add-if4 c = omega arith
+add-stride : tie.Need-add-stride Inv-loop μ-loop Inv-loop2 μ-loop2 Inv-starts μ-starts
+add-stride c = omega arith
 
-shared-slice-read-if4 :
-    tie.Need-shared-slice-read-if4 Inv-loop μ-loop Inv-loop2 μ-loop2 Inv-starts μ-starts
-shared-slice-read-if4 c = omega arith
+sub-stride : tie.Need-sub-stride Inv-loop μ-loop Inv-loop2 μ-loop2 Inv-starts μ-starts
+sub-stride c = omega arith
 
-shared-slice-read-if4-2 :
-    tie.Need-shared-slice-read-if4-2 Inv-loop μ-loop Inv-loop2 μ-loop2 Inv-starts μ-starts
-shared-slice-read-if4-2 c = omega arith
+stride-requires : tie.Need-stride-requires Inv-loop μ-loop Inv-loop2 μ-loop2 Inv-starts μ-starts
+stride-requires c κs = near-ahead (c .before .loop .inv) (omega arith)
 
 add-i : tie.Need-add-i Inv-loop μ-loop Inv-loop2 μ-loop2 Inv-starts μ-starts
 add-i c = omega arith
@@ -61,7 +62,7 @@ starts-less : tie.Need-starts-less Inv-loop μ-loop Inv-loop2 μ-loop2 Inv-start
 starts-less c = omega arith
 
 starts-again : tie.Need-starts-again Inv-loop μ-loop Inv-loop2 μ-loop2 Inv-starts μ-starts
-starts-again c = near-less (c .before .before .before .before .loop .inv) (omega arith) (c .if4 .taken)
+starts-again c = near-less (c .before .before .before .loop .inv) (c .before .stride .ensures) (c .if4 .taken)
 
 add-j : tie.Need-add-j Inv-loop μ-loop Inv-loop2 μ-loop2 Inv-starts μ-starts
 add-j c = omega arith
@@ -70,21 +71,20 @@ loop-less : tie.Need-loop-less Inv-loop μ-loop Inv-loop2 μ-loop2 Inv-starts μ
 loop-less c = omega arith
 
 loop-again : tie.Need-loop-again Inv-loop μ-loop Inv-loop2 μ-loop2 Inv-starts μ-starts
-loop-again c = near-more (c .before .before .before .before .loop .inv) (omega arith) (c .if4 .left)
+loop-again c = near-more (c .before .before .before .loop .inv) (c .before .stride .ensures)
 
 loop2-holds : tie.Need-loop2-holds Inv-loop μ-loop Inv-loop2 μ-loop2 Inv-starts μ-starts
 loop2-holds c = near-far (c .before .loop .inv) (omega arith)
 
-shared-slice-read-if5 :
-    tie.Need-shared-slice-read-if5 Inv-loop μ-loop Inv-loop2 μ-loop2 Inv-starts μ-starts
-shared-slice-read-if5 c = omega arith
+add-stride-2 : tie.Need-add-stride-2 Inv-loop μ-loop Inv-loop2 μ-loop2 Inv-starts μ-starts
+add-stride-2 c = omega arith
 
-add-if5 : tie.Need-add-if5 Inv-loop μ-loop Inv-loop2 μ-loop2 Inv-starts μ-starts
-add-if5 c = omega arith
+sub-stride-2 : tie.Need-sub-stride-2 Inv-loop μ-loop Inv-loop2 μ-loop2 Inv-starts μ-starts
+sub-stride-2 c = omega arith
 
-shared-slice-read-if5-2 :
-    tie.Need-shared-slice-read-if5-2 Inv-loop μ-loop Inv-loop2 μ-loop2 Inv-starts μ-starts
-shared-slice-read-if5-2 c = omega arith
+stride-requires-2 :
+    tie.Need-stride-requires-2 Inv-loop μ-loop Inv-loop2 μ-loop2 Inv-starts μ-starts
+stride-requires-2 c κs = far-ahead (c .before .loop2 .inv) (omega arith)
 
 add-i-2 : tie.Need-add-i-2 Inv-loop μ-loop Inv-loop2 μ-loop2 Inv-starts μ-starts
 add-i-2 c = omega arith
@@ -93,7 +93,7 @@ starts-less-2 : tie.Need-starts-less-2 Inv-loop μ-loop Inv-loop2 μ-loop2 Inv-s
 starts-less-2 c = omega arith
 
 starts-again-2 : tie.Need-starts-again-2 Inv-loop μ-loop Inv-loop2 μ-loop2 Inv-starts μ-starts
-starts-again-2 c = far-less (c .before .before .before .before .loop2 .inv) (omega arith) (c .if5 .taken)
+starts-again-2 c = far-less (c .before .before .before .loop2 .inv) (c .before .stride2 .ensures) (c .if5 .taken)
 
 add-k : tie.Need-add-k Inv-loop μ-loop Inv-loop2 μ-loop2 Inv-starts μ-starts
 add-k c = omega arith
@@ -102,7 +102,7 @@ loop2-less : tie.Need-loop2-less Inv-loop μ-loop Inv-loop2 μ-loop2 Inv-starts 
 loop2-less c = omega arith
 
 loop2-again : tie.Need-loop2-again Inv-loop μ-loop Inv-loop2 μ-loop2 Inv-starts μ-starts
-loop2-again c = far-more (c .before .before .before .before .loop2 .inv) (omega arith) (c .if5 .left)
+loop2-again c = far-more (c .before .before .before .loop2 .inv) (c .before .stride2 .ensures)
 
 returns-3 : tie.Need-returns-3 Inv-loop μ-loop Inv-loop2 μ-loop2 Inv-starts μ-starts
 returns-3 c = passed-all (c .before .starts .inv) (c .if3 .taken)
@@ -125,9 +125,9 @@ rotation-spec =
     starts-holds
     sub-rest
     loop-holds
-    add-if4
-    shared-slice-read-if4
-    shared-slice-read-if4-2
+    add-stride
+    sub-stride
+    stride-requires
     add-i
     starts-less
     starts-again
@@ -135,9 +135,9 @@ rotation-spec =
     loop-less
     loop-again
     loop2-holds
-    shared-slice-read-if5
-    add-if5
-    shared-slice-read-if5-2
+    add-stride-2
+    sub-stride-2
+    stride-requires-2
     add-i-2
     starts-less-2
     starts-again-2
