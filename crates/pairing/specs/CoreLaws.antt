@@ -4,23 +4,19 @@ use mathlib.Core.Path.{_≡_, refl, sym, _∙_, subst}
 use mathlib.Core.Bool.{Bool, true, false, not, _&&_, true≢false}
 use mathlib.Core.List.{List}
 use mathlib.Core.Logic.{_↔_}
+use borrow.Author.Tests.{not-true, not-false}
 use Rattle.plan.specs.Letters.{alphabet}
 use Rattle.conjugacy.specs.Part.{commands, labels, label, apexes}
 use Rattle.conjugacy.specs.PartLaws.{label-same}
 use Rattle.conjugacy.specs.Decision.{alike?, parts-joined?, cores-joined?}
 use Rattle.conjugacy.specs.DecisionLaws.{alike-true, alike-refl}
 use Rattle.conjugacy.specs.LeadIn.{parts-lead}
-use Rattle.ringing.specs.PartLaws.{not-true}
 use Rattle.parts.specs.Flags.{Flags, LabelsOf}
 use Rattle.leading.specs.declared.Outcome.{Outcome}
 use Rattle.leading.specs.declared.Outcome.the-variants.{Joined, Apart, Unsettled}
 use Rattle.leading.specs.Lead.{Leads}
 use Rattle.pairing.specs.Pair.{Leadable, Coreable, CoresLead}
 use Rattle.pairing.specs.WayLaws.{parts-way}
-
-not-false : (t : Bool) → not t ≡ false → t ≡ true
-not-false true e = refl
-not-false false e = sym e
 
 -- what the comparison of the flags tells
 pub tells-same : {P : Type 0} {r : Bool} → (r ≡ true) ↔ P → not r ≡ false → P

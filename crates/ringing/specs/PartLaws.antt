@@ -4,7 +4,7 @@ use mathlib.Core.Path.{_≡_, refl, sym, _∙_, subst}
 use mathlib.Core.Bool.{Bool, true, false, not}
 use mathlib.Core.List.{[], _∷_, _++_, append-nil, append-assoc}
 use lib.Dec.{eqb}
-use borrow.Author.Tests.{eqb-true, eqb-false}
+use borrow.Author.Tests.{eqb-true, eqb-false, not-true}
 use Rattle.words.specs.All.{All, all-along, all-append}
 use Rattle.words.specs.Alphabet.{Alphabet, Word}
 use Rattle.words.specs.Trace as Trace
@@ -18,10 +18,6 @@ use Rattle.conjugacy.specs.FilterLaws.{filter-kept, filter-left}
 use Rattle.conjugacy.specs.CommandLaws.{Occurs, now, later, apart-occurs, occurs-back, filter-occurs}
 use Rattle.conjugacy.specs.Part.{label, part, share}
 use Rattle.conjugacy.specs.PartLaws.{Independent, label-parting}
-
-pub not-true : (t : Bool) → not t ≡ true → t ≡ false
-not-true true e = sym e
-not-true false e = refl
 
 module _ (Γ : Alphabet) where
   open Alphabet Γ using (Letter, cmd, conf)

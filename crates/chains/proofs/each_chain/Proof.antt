@@ -3,7 +3,8 @@
 use Prim.Native.Nat.{_+_, _-_}
 use native.Mathlib.Omega.{arith}
 use mathlib.Core.Path.{_≡_, refl, ap, sym, _∙_}
-use mathlib.Core.Bool.{Bool, true, false, not, true≢false}
+use mathlib.Core.Bool.{not}
+use borrow.Author.Tests.{not-false}
 use Rattle.refusal.specs.Search.{lineAt}
 use Rattle.refusal.specs.SearchLaws.{Searching, search-start, search-again, search-hit, search-end}
 use Rattle.catalogue.specs.Catalogue.{commands, headPlace}
@@ -13,10 +14,6 @@ use Rattle.chains.specs.ChainLaws.{endless, chained-start, chained-end}
 use Rattle.chains.specs.KnownLaws.{known-start}
 use Rattle.chains.proofs.each_chain.Statement.{statement}
 use Rattle.chains.proofs.each_chain.Tie as tie
-
-not-false : (b : Bool) → not b ≡ false → b ≡ true
-not-false true e = refl
-not-false false e = absurd (true≢false e)
 
 abbrev Inv-loop : tie.InvT-loop
 Inv-loop c rows₀ own₀ firsts₀ n a₀ rows own firsts a =
