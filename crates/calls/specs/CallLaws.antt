@@ -1,19 +1,16 @@
 -- Laws of the calls' definitions: what an answer tells of the table, of an area, of the plans.
 use Prim.Native.Nat.{ℕ, _≤_}
-use mathlib.Core.Path.{_≡_, refl, sym, _∙_, ap, ap₂}
-use mathlib.Core.Bool.{Bool, true, false, not, _&&_, _||_}
-use mathlib.Core.List.{List, [], _∷_, _++_}
+use mathlib.Core.Path.{_≡_, refl, sym, ap₂}
+use mathlib.Core.Bool.{Bool, true, false, _&&_}
+use mathlib.Core.List.{List, [], _∷_}
 use mathlib.Core.Option.{Option, none, some}
 use mathlib.Core.Logic.{_↔_}
 use native.Mathlib.Omega.{arith}
 use lib.Dec.{ltb, eqb}
-use lib.ListN.{length}
 use borrow.Author.Tests.{ltb-false, eqb-true, eq-eqb}
-use Rattle.refusal.specs.Line.{Line, line, holds, Answer, refused, given, firstLine, orElse}
-use Rattle.refusal.specs.LineLaws.{none-holds, none-left, none-right}
-use Rattle.catalogue.specs.Catalogue.{commands, catalogueLines, countLine}
-use Rattle.plan.specs.Plan.{planLines, Passing}
-use Rattle.plan.specs.PlanLaws.{lines-pass}
+use Rattle.refusal.specs.Line.{Line, line, holds, refused, given, firstLine, orElse}
+use Rattle.refusal.specs.LineLaws.{none-holds}
+use Rattle.catalogue.specs.Catalogue.{commands, catalogueLines}
 use Rattle.calls.specs.Calls.{sameBytes}
 
 module _ {A : Type 0} where

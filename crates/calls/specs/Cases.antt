@@ -1,7 +1,7 @@
 -- Document 01's starred bench cases as one table, and the sentence that the definitions of the calls yield each row.
 use Prim.Native.Nat.{ℕ}
 use mathlib.Core.Path.{_≡_, refl}
-use mathlib.Core.Bool.{Bool, true, false}
+use mathlib.Core.Bool.{true, false}
 use mathlib.Core.List.{List, [], _∷_, _++_}
 use native.Mathlib.Decide.{ℕ-discrete}
 use lib.ListN.{length, drop}
@@ -48,7 +48,6 @@ use Rattle.calls.specs.Calls.{
   coreArea,
   equalAnswer,
 }
-use Rattle.calls.specs.Answers.{Checked}
 use Rattle.calls.specs.Loops.{checkAnswer, checkArea0, checkArea1}
 
 -- catalogue K: conflicts 1-2, 2-3, 3-4

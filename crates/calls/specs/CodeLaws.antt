@@ -6,7 +6,7 @@ use mathlib.Core.Option.{Option, none, some}
 use native.Mathlib.Omega.{arith}
 use native.Mathlib.Nat.{mul-le-mul-left, mul-le-mul-right}
 use lib.ListN.{length}
-use Rattle.refusal.specs.Line.{Line, Answer, given, firstLine}
+use Rattle.refusal.specs.Line.{Answer, given, firstLine}
 use Rattle.refusal.specs.LineLaws.{none-left, none-right}
 use Rattle.catalogue.specs.Catalogue.{commands, catalogueLines}
 use Rattle.plan.specs.Plan.{planLines}

@@ -10,7 +10,7 @@ use mathlib.Core.Logic.{_↔_, _⊎_}
 use native.Mathlib.Omega.{arith}
 use lib.ListN.{length, take, drop}
 use lib.Seq.{take-at, take-append-seam, drop-append-seam}
-use Rattle.refusal.specs.Line.{Line, Answer, refused, given, firstLine, orElse}
+use Rattle.refusal.specs.Line.{Line, refused, given, firstLine, orElse}
 use Rattle.refusal.specs.LineLaws.{NoneHolds, FirstHolds, none-holds, first-holds, none-left, none-right}
 use Rattle.catalogue.specs.Catalogue.{commands, catalogueLines}
 use Rattle.words.specs.All.{all-append}
@@ -32,7 +32,7 @@ use Rattle.calls.specs.Calls.{
   sameBytes,
 }
 use Rattle.calls.specs.Answers.{Checked}
-use Rattle.calls.specs.Loops.{Looped, apart, joined, LeadIn, loopsLines, leadInLimit, checkLines, checkAnswer}
+use Rattle.calls.specs.Loops.{Looped, apart, joined, LeadIn, checkLines, checkAnswer}
 use Rattle.calls.specs.LoopLaws.{loops-pass, none-joins, none-some, check-pass}
 use Rattle.plan.specs.Join.{Joins}
 use Rattle.plan.specs.JoinLaws.{joins-check}

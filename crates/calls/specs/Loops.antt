@@ -2,12 +2,11 @@
 -- answer, and the final bytes of its areas. Only the lead-in of two joined loops is left free.
 use Prim.Native.Nat.{ℕ, _+_, _*_, _≤_}
 use mathlib.Core.Path.{_≡_}
-use mathlib.Core.Bool.{Bool, true, false, _||_}
+use mathlib.Core.Bool.{Bool, true, false}
 use mathlib.Core.List.{List, [], _∷_, _++_}
 use mathlib.Core.Option.{Option, none, some}
 use lib.ListN.{length, drop}
 use Rattle.refusal.specs.Line.{Line, line, holds, firstLine, Answer, refused, given, orElse}
-use Rattle.words.specs.Alphabet.{Word}
 use Rattle.conjugacy.specs.Core.{core}
 use Rattle.conjugacy.specs.Part.{apexes, part}
 use Rattle.conjugacy.specs.Settle.{split, settled}

@@ -6,30 +6,15 @@ use mathlib.Core.Bool.{Bool, true, false, not, _||_, or-true, true≢false}
 use mathlib.Core.List.{List}
 use mathlib.Core.Option.{Option, none, some}
 use lib.ListN.{length, getD}
-use lib.Dec.{ltb, eqb, leb}
-use borrow.Author.Tests.{lt-ltb, le-ltb, eq-eqb, ne-eqb, le-leb, ltb-true, ltb-false, eqb-true, eqb-false, not-false}
+use lib.Dec.{ltb, eqb}
+use borrow.Author.Tests.{lt-ltb, le-ltb, eq-eqb, ne-eqb, le-leb, ltb-false, eqb-true, eqb-false, not-false}
 use Rattle.refusal.specs.Line.{Line, line, toldChecked, refused, orElse, holds}
-use Rattle.refusal.specs.Search.{firstOf, lineAt}
+use Rattle.refusal.specs.Search.{lineAt}
 use Rattle.refusal.specs.SearchLaws.{search-none, passed-line, refused-line}
 use Rattle.refusal.specs.declared.Refusal.{Refusal}
 use Rattle.refusal.specs.declared.Checked.{Checked}
 use Rattle.refusal.specs.declared.Checked.the-variants.{Passed, Refused}
-use Rattle.catalogue.specs.Catalogue.{
-  commands,
-  records,
-  head,
-  headPlace,
-  command,
-  next,
-  nextPlace,
-  commandPlace,
-  orIf,
-  sizeLine,
-  countLine,
-  headLine,
-  nextLine,
-  recordLine,
-}
+use Rattle.catalogue.specs.Catalogue.{commands, records, head, headPlace, command, next, nextPlace, commandPlace, orIf, countLine, headLine, nextLine, recordLine}
 use Rattle.catalogue.specs.Sound.{frameLine, Decides, Framed, Sound}
 
 pub some-none : {A : Type 0} {a : A} → some a ≡ none → ⊥

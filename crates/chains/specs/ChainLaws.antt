@@ -3,22 +3,19 @@ use Prim.Native.Nat.{ℕ, zero, suc, _+_, _-_, _≤_, _<_}
 use native.Mathlib.Decide.{ℕ-discrete, decLt}
 use native.Mathlib.Numerals.{add-one}
 use native.Mathlib.Omega.{arith}
-use mathlib.Core.Path.{_≡_, refl, sym, _∙_, ap, ap₂}
+use mathlib.Core.Path.{_≡_, refl, sym, _∙_, ap}
 use mathlib.Core.Bool.{Bool, true, false, not, _||_, _&&_, or-self, and-true, and-false}
-use mathlib.Core.Logic.{_⊎_, inl, inr}
-use mathlib.Core.List.{List, [], _∷_}
-use lib.ListN.{getD}
-use lib.Dec.{eqb, ltb, leb, eqb·suc-suc}
-use borrow.Author.Tests.{eq-eqb, ne-eqb, lt-ltb, le-ltb, lt-leb}
-use Rattle.catalogue.specs.Catalogue.{commands, records, head, headPlace, command, next, ends, follow, chain, stands}
+use mathlib.Core.List.{List, []}
+use lib.Dec.{eqb, ltb, eqb·suc-suc}
+use borrow.Author.Tests.{ne-eqb, lt-ltb, le-ltb, lt-leb}
+use Rattle.catalogue.specs.Catalogue.{commands, records, head, ends, follow, chain, stands}
 use Rattle.catalogue.specs.Conflict.{bit, conflict, Conflicts}
 use Rattle.marking.specs.Marks.{cell, Shape, pairs}
 use Rattle.chains.specs.Marks.{Blank, diagonal, Met}
 use Rattle.chains.specs.Known.{met, Chained}
-use Rattle.marking.specs.MarksLaws.{Fit, over, over-bit, pairs-shape, pairs-cell}
+use Rattle.marking.specs.MarksLaws.{Fit, over-bit, pairs-shape, pairs-cell}
 use Rattle.chains.specs.MarksLaws.{ltb-more, diagonal-shape, diagonal-cell}
-use Rattle.catalogue.specs.Sound.{Framed, Sound}
-use Rattle.catalogue.specs.SoundLaws.{head-at}
+use Rattle.catalogue.specs.Sound.{Sound}
 
 -- the test of line 5
 abbrev pub endless : List ℕ → ℕ → Bool

@@ -1,21 +1,20 @@
 -- A chain that several commands have: the members that one row tells are marked as the chain itself would be, and what
 -- is known of each head stays known.
-use Prim.Native.Nat.{ℕ, zero, suc, _+_, _-_, _≤_, _<_}
+use Prim.Native.Nat.{ℕ, _+_, _-_, _≤_, _<_}
 use native.Mathlib.Decide.{ℕ-discrete, decLt}
-use native.Mathlib.Numerals.{add-one}
 use native.Mathlib.Omega.{arith}
 use mathlib.Core.Path.{_≡_, refl, sym, _∙_, ap, subst}
 use mathlib.Core.Bool.{Bool, true, false, _||_, _&&_, or-false}
-use mathlib.Core.List.{List, [], _∷_}
-use lib.ListN.{length, getD, set, replicate, drop, length-set, getD-replicate, drop-of-length-le}
-use lib.Seq.{getD-set-same, getD-set-other, drop-cons}
+use mathlib.Core.List.{List, []}
+use lib.ListN.{length, getD, set, replicate, length-set, getD-replicate}
+use lib.Seq.{getD-set-same, getD-set-other}
 use lib.Dec.{eqb}
 use borrow.Author.Tests.{eq-eqb, ne-eqb}
-use Rattle.catalogue.specs.Catalogue.{commands, records, head, headPlace, ends, follow, chain, stands}
+use Rattle.catalogue.specs.Catalogue.{commands, records, head, headPlace, ends, chain, stands}
 use Rattle.catalogue.specs.Conflict.{bit}
 use Rattle.catalogue.specs.Sound.{Sound}
 use Rattle.catalogue.specs.SoundLaws.{head-at}
-use Rattle.marking.specs.Marks.{cell, Shape, pairs, notes, members}
+use Rattle.marking.specs.Marks.{cell, pairs, notes, members}
 use Rattle.chains.specs.Marks.{Blank}
 use Rattle.marking.specs.MarksLaws.{Fit, notes-shape, notes-cell}
 use Rattle.marking.specs.MembersLaws.{members-fit, members-stand}

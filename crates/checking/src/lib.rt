@@ -5,7 +5,6 @@ use row::append;
 use row::same_bytes;
 use wordform::form;
 ghost use Prim.Native.Nat.{ℕ, _+_, _≤_};
-ghost use mathlib.Core.Path.{_≡_};
 ghost use mathlib.Core.List.{List};
 ghost use lib.ListN.{length};
 ghost use Rattle.checking.specs.Checking.{Joined, Factors, Multiplied, Checkable, CheckedIn};

@@ -1,18 +1,17 @@
 -- Laws of undoing a plan on a piling.
 use Prim.Native.Nat.{ℕ, _+_, _-_, _≤_, _<_}
 use mathlib.Core.Path.{_≡_, refl, sym, _∙_, ap, subst}
-use mathlib.Core.Bool.{Bool, true, false, false≢true}
+use mathlib.Core.Bool.{true, false, false≢true}
 use mathlib.Core.List.{List, [], _∷_, reverse}
 use mathlib.Core.Logic.{_↔_}
 use native.Mathlib.Omega.{arith}
 use native.Mathlib.Decide.{ℕ-discrete}
 use lib.ListN.{length, getD, take, length-take, length-reverse}
 use lib.Seq.{take-all}
-use lib.Dec.{eqb}
 use borrow.Author.Tests.{eq-eqb, ne-eqb}
 use Rattle.words.specs.Trace.{First}
 use Rattle.words.specs.Group as Group
-use Rattle.words.specs.Group.{Reduced, then, back, empty}
+use Rattle.words.specs.Group.{Reduced, back, empty}
 use Rattle.words.specs.Reduce.{act}
 use Rattle.words.specs.ReduceLaws.{put, acts, act-is, act-falls, act-rises, act-shift, act-reduced, reduced-least}
 use Rattle.catalogue.specs.Catalogue.{commands}
@@ -23,8 +22,7 @@ use Rattle.plan.specs.LettersLaws.{letters-length}
 use Rattle.plan.specs.Lettered.{Lettered}
 use Rattle.plan.specs.PlanLaws.{passing-at}
 use Rattle.piling.specs.Piling.{Piled, Counted}
-use Rattle.piling.specs.Push.{Facing, Ready, Cancelled}
-use Rattle.piling.specs.PilingLaws.{still-ready}
+use Rattle.piling.specs.Push.{Facing}
 use Rattle.piling.specs.PileLaws.{passes-range, facing-at, more-filler, more-letter}
 use Rattle.comparing.specs.Comparing.{undoneBy, undoneBy-step, Undoable, Undone, Opposed}
 

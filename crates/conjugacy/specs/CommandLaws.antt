@@ -17,7 +17,7 @@ use Rattle.conjugacy.specs.Turn.{Turns, same, turn, also}
 use Rattle.conjugacy.specs.Filter.{filter, filter-step}
 use Rattle.conjugacy.specs.Part.{commands}
 use Rattle.conjugacy.specs.AscendingLaws.{_∈_, Ascending, insert-in, in-insert, insert-ascending, ascending-equal}
-use Rattle.conjugacy.specs.AscendingLaws.{within-length, within-shorter, ascending-length}
+use Rattle.conjugacy.specs.AscendingLaws.{within-shorter, ascending-length}
 
 module _ (Γ : Alphabet) where
   open Alphabet Γ using (Letter, cmd, conf)
@@ -37,10 +37,6 @@ module _ (Γ : Alphabet) where
   pub occurs-length : {k : ℕ} {w : Word Γ} → Occurs k w → 0 < length w
   occurs-length (now e) = omega arith
   occurs-length (later o) = omega arith
-
-  pub occurs-cases : {k : ℕ} {a : Letter} {w : Word Γ} → Occurs k (a ∷ w) → (k ≡ cmd a) ⊎ Occurs k w
-  occurs-cases (now e) = inl e
-  occurs-cases (later o) = inr o
 
   pub occurs-left : {k : ℕ} {v : Word Γ} (w : Word Γ) → Occurs k v → Occurs k (v ++ w)
   occurs-left w (now e) = now e
@@ -176,18 +172,11 @@ module _ (Γ : Alphabet) where
   commands-same v w f g = ascending-equal (commands Γ v) (commands Γ w) (commands-ascending v) (commands-ascending w)
       (λ k m. occurs-in (f k (in-occurs v m))) (λ k m. occurs-in (g k (in-occurs w m)))
 
-  pub commands-along : {v w : Word Γ} → v ~ w → commands Γ v ≡ commands Γ w
-  commands-along {v} {w} e = commands-same v w (λ k o. occurs-along e o) (λ k o. occurs-along (~-sym Γ e) o)
-
   pub commands-turns : {v w : Word Γ} → Turns Γ v w → commands Γ v ≡ commands Γ w
   commands-turns {v} {w} e = commands-same v w (λ k o. occurs-turns e o) (λ k o. occurs-back e o)
 
   pub same-covers : (v w : Word Γ) → commands Γ v ≡ commands Γ w → Covers w v
   same-covers v w e k o = in-occurs w (subst (λ ks. k ∈ ks) e (occurs-in o))
-
-  pub covers-length : (v w : Word Γ) → Covers w v → length (commands Γ v) ≤ length (commands Γ w)
-  covers-length v w f = within-length (commands Γ v) (commands Γ w) (commands-ascending v) (commands-ascending w)
-      (λ k m. occurs-in (f k (in-occurs v m)))
 
   -- a command that occurs in w alone: v has fewer
   pub covers-shorter : (v w : Word Γ) → Covers w v → (k : ℕ) → Occurs k w → ¬ Occurs k v

@@ -18,10 +18,10 @@ use Rattle.words.specs.TraceLaws.{~-refl, ~-sym, ~-length, ~-after, pick-front,
 use Rattle.words.specs.TraceLaws.{pick-nil, pick-unique, diamond, dep-sym}
 use Rattle.words.specs.GroupLaws.{~→≈, ≈-of-≡, ≈-after, ≈-before, dep-inv-right, undo-onto}
 use Rattle.words.specs.GroupLaws.{pick-undo, first-undo, conj-of, undo-left}
-use Rattle.words.specs.ReduceLaws.{Sees, seen, unseen, sees, reduce-~, reduce-≈, reduce-reduced, reduce-fixed}
+use Rattle.words.specs.ReduceLaws.{Sees, seen, unseen, sees, reduce-~, reduce-≈, reduce-reduced}
 use Rattle.words.specs.ReduceLaws.{reduced-along, reduced-prefix, reduced-suffix}
 use Rattle.conjugacy.specs.Turn.{Tight, Round}
-use Rattle.conjugacy.specs.TurnLaws.{tight-along, tight-round, round-reduced, round-tight}
+use Rattle.conjugacy.specs.TurnLaws.{tight-along, tight-round}
 use Rattle.conjugacy.specs.WordLaws.{~-of-≡, inv-cancel, last-cancel, pick-before, last-diamond}
 use Rattle.conjugacy.specs.Core.{Cores, bare, peel, undone, without-last, between, pair-step, pair}
 use Rattle.conjugacy.specs.Core.{peels-step, peels, lead, core}
@@ -155,9 +155,6 @@ module _ (Γ : Alphabet) where
   pub core-~ : (v w : Word Γ) → v ≈ w → core Γ v ~ core Γ w
   core-~ v w e = cores-unique (reduce-~ Γ e) (core-cores v) (core-cores w) .0
 
-  pub lead-~ : (v w : Word Γ) → v ≈ w → lead Γ v ~ lead Γ w
-  lead-~ v w e = cores-unique (reduce-~ Γ e) (core-cores v) (core-cores w) .1
-
   -- however pairs are taken off
   pub cores-core : (v : Word Γ) {x g z : Word Γ} → x ~ reduce Γ v → Cores Γ x g z → (z ~ core Γ v) × (g ~ lead Γ v)
   cores-core v e k = cores-unique e k (core-cores v)
@@ -194,12 +191,6 @@ module _ (Γ : Alphabet) where
   -- cores are cyclically reduced
   pub core-round : (v : Word Γ) → Round Γ (core Γ v)
   core-round v = tight-round Γ (core Γ v) (core-reduced v) (core-tight v)
-
-  -- and a cyclically reduced word is its own core
-  pub round-core : (v : Word Γ) → Round Γ v → core Γ v ~ v
-  round-core v r =
-      let e : v ~ reduce Γ v = ~-of-≡ Γ (sym (reduce-fixed Γ v (round-reduced Γ v r))) in
-      ~-sym Γ (cores-core v e (bare (round-tight Γ v r) (~-refl Γ v)) .0)
 
   pub core-length : (v : Word Γ) → length (reduce Γ v) ≡ 2 * length (lead Γ v) + length (core Γ v)
   core-length v = cores-length (core-cores v)

@@ -10,15 +10,13 @@ use mathlib.Core.List.{List, [], _∷_, _++_, List·Memᴰ·head, List·Memᴰ·
 use lib.ListN.{length, length-append}
 use lib.Dec.{eqb}
 use borrow.Author.Tests.{eqb-true, eq-eqb}
-use Rattle.words.specs.All.{All, all-append}
+use Rattle.words.specs.All.{All}
 use Rattle.words.specs.Alphabet.{Alphabet, Word}
 use Rattle.words.specs.Trace as Trace
 use Rattle.words.specs.TraceLaws.{~-length}
 use Rattle.words.specs.Group as Group
 use Rattle.words.specs.Group.{undo, conj, then, back}
-use Rattle.words.specs.GroupLaws.{~→≈, ≈-conj, ≈-conj-by, undo-length}
-use Rattle.words.specs.Normal.{nf}
-use Rattle.words.specs.NormalLaws.{nf-≈, nf-length}
+use Rattle.words.specs.GroupLaws.{~→≈, ≈-conj, undo-length}
 use Rattle.words.specs.ReduceLaws.{reduce-length}
 use Rattle.conjugacy.specs.Turn.{Turns}
 use Rattle.conjugacy.specs.TurnLaws.{turns-length}
@@ -33,9 +31,9 @@ use Rattle.conjugacy.specs.CommandLaws.{all-occurs, commands-turns}
 use Rattle.conjugacy.specs.PartLaws.{ascending-once, shares, label-same, apexes-same, apexes-ascending, apexes-~}
 use Rattle.conjugacy.specs.Decision.{alike?, part-ring, rotated?, parts-joined?, cores-joined?, joined?}
 use Rattle.conjugacy.specs.LeadIn.{parts-lead, lead-in}
-use Rattle.conjugacy.specs.LeadInLaws.{both, apical-part, settling-leads, rotated-test, all-undo}
+use Rattle.conjugacy.specs.LeadInLaws.{both, apical-part, settling-leads, rotated-test}
 use Rattle.conjugacy.specs.JoinLaws.{part-second, apical-second}
-use Rattle.conjugacy.specs.JoinLaws.{parts-lead-conj, parts-lead-length, parts-lead-all}
+use Rattle.conjugacy.specs.JoinLaws.{parts-lead-conj, parts-lead-length}
 
 pub alike-true : (is js : List ℕ) → alike? is js ≡ true → is ≡ js
 unfolding alike?
@@ -145,20 +143,6 @@ module _ (Γ : Alphabet) where
 
   -- the letters of reductions, cores and lead-ins
 
-  pub lead-in-all : (P : Letter → Type 0) → ((a : Letter) → P a → P (inv a)) → (v w : Word Γ) → joined? Γ v w ≡ true
-      → All P v → All P w → All P (lead-in Γ v w)
-  unfolding joined? lead-in
-  lead-in-all P f v w t h k =
-      let x = core Γ v in
-      let y = core Γ w in
-      let u = parts-lead Γ (apexes Γ x) x y in
-      let (g, i) = core-all Γ P v h in
-      let (g′, i′) = core-all Γ P w k in
-      all-append P (lead Γ v) (u ++ undo Γ (lead Γ w) []) g
-      (all-append P u (undo Γ (lead Γ w) [])
-      (parts-lead-all Γ x y (cores-true x y t .0) P f i i′ (apexes Γ x) (λ j o. o))
-      (all-undo Γ P f (lead Γ w) [] g′ tt))
-
   pub none-occur : (n : ℕ) (w : Word Γ) → All (λ a. (1 ≤ cmd a) × (cmd a ≤ n)) w → n ≡ 0 → length w ≡ 0
   none-occur n [] h e = refl
   none-occur n (a ∷ w) h e = let (l, u) = h .0 in absurd (omega arith)
@@ -182,16 +166,6 @@ module _ (Γ : Alphabet) where
       (λ d. omega (arith, none-occur n v h d, none-occur n w k d))
       (omega (arith, core-length Γ v, reduce-length Γ v)) (omega (arith, core-length Γ w, reduce-length Γ w)) c in
       omega (arith, f, length-append (lead Γ v) (u ++ g), length-append u g, undo-length Γ (lead Γ w) [])
-
-  -- the same of its normal form
-  pub lead-in-nf : (v w : Word Γ) → joined? Γ v w ≡ true → conj Γ (nf Γ (lead-in Γ v w)) v ≈ w
-  lead-in-nf v w t = then (≈-conj-by Γ (nf-≈ Γ (lead-in Γ v w)) v) (lead-in-conj v w t)
-
-  pub lead-in-nf-length : (n : ℕ) (v w : Word Γ) → joined? Γ v w ≡ true → All (λ a. (1 ≤ cmd a) × (cmd a ≤ n)) v
-      → All (λ a. (1 ≤ cmd a) × (cmd a ≤ n)) w → length (nf Γ (lead-in Γ v w)) ≤ n * (length v + length w)
-  lead-in-nf-length n v w t h k =
-      let u = lead-in Γ v w in
-      omega (arith, lead-in-length n v w t h k, nf-length Γ u, reduce-length Γ u)
 
   -- for any two words: a conjugating word of that length, or none of any length
   pub joining : (n : ℕ) (v w : Word Γ) → All (λ a. (1 ≤ cmd a) × (cmd a ≤ n)) v

@@ -10,7 +10,7 @@ use Rattle.words.specs.All.{All}
 use Rattle.words.specs.Trace as Trace
 use Rattle.words.specs.Trace.{Pick, here, there, done, cons, swap, next}
 use Rattle.words.specs.Group as Group
-use Rattle.words.specs.Group.{undo, conj, empty, keep, trade, drop, then, back}
+use Rattle.words.specs.Group.{undo, empty, keep, trade, drop, then, back}
 use Rattle.words.specs.TraceLaws.{~-refl, Apart}
 use Rattle.conjugacy.specs.WordLaws.{~-of-≡}
 use Rattle.words.specs.GroupLaws.{≈-refl, ~→≈}
@@ -62,10 +62,6 @@ module _ (Γ : Alphabet) where
         go false true e = absurd (true≢false e)
         go false false e = refl
 
-    pub filter-conj : (u x : Word Γ) → filter Γ f (conj Γ u x) ≡ conj Γ (filter Γ f u) (filter Γ f x)
-    unfolding conj
-    filter-conj u x = filter-undo u (x ++ u) ∙ ap (undo Γ (filter Γ f u)) (filter-append x u)
-
     pub filter-length : (w : Word Γ) → length (filter Γ f w) ≤ length w
     unfolding filter filter-step
     filter-length [] = omega arith
@@ -88,9 +84,6 @@ module _ (Γ : Alphabet) where
     unfolding filter
     passes-filter [] p = refl
     passes-filter (a ∷ w) p = filter-kept a w (p .0) ∙ ap (λ (x : Word Γ). a ∷ x) (passes-filter w (p .1))
-
-    pub filter-twice : (w : Word Γ) → filter Γ f (filter Γ f w) ≡ filter Γ f w
-    filter-twice w = passes-filter (filter Γ f w) (filter-passes w)
 
     -- a letter that is independent of a word is so of the word filtered
     pub apart-filter : (c : Letter) (w : Word Γ) → Apart Γ c w → Apart Γ c (filter Γ f w)

@@ -167,12 +167,6 @@ module _ (Γ : Alphabet) where
       go true c = absurd (n (labels-one Γ (commands Γ w) (occurs-in Γ o) (occurs-in Γ p) c))
       go false c = refl
 
-  pub parts-independent : (l m : ℕ) (w : Word Γ) → l ≢ m → Independent (part Γ l w) (part Γ m w)
-  parts-independent l m w n i j o p =
-      let (oi, ei) = part-occurs l w o in
-      let (oj, ej) = part-occurs m w p in
-      label-parting w i j oi oj (λ e. n (sym ei ∙ e ∙ ej))
-
   -- the label of a part is its largest command
   pub part-largest : (m : ℕ) {k : ℕ} (w : Word Γ) → Occurs Γ k (part Γ m w) → k ≤ m
   unfolding label

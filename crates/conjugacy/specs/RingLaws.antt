@@ -1,14 +1,14 @@
 -- Laws of rings. A word leads to a ring by cyclings of letters other than the apex; the ring is one, whatever is cycled
 -- first, and swaps and any cyclings of the word lead to a rotation of it.
-use Prim.Native.Nat.{ℕ, _≤_, _<_}
+use Prim.Native.Nat.{ℕ, _≤_}
 use native.Mathlib.Nat.{le-of-eq}
 use native.Mathlib.Decide.{ℕ-discrete}
 use native.Mathlib.Omega.{arith}
 use mathlib.Core.Path.{_≡_, refl, sym, _∙_, ap, subst}
 use mathlib.Core.Bool.{false}
 use mathlib.Core.List.{[], _∷_, _++_, append-nil, append-assoc}
-use lib.ListN.{length, take, drop, length-drop}
-use mathlib.Core.Option.{none, some}
+use lib.ListN.{length, take}
+use mathlib.Core.Option.{some}
 use Rattle.words.specs.Alphabet.{Alphabet, Word, dep}
 use Rattle.words.specs.All.{All, all-append, all-left, all-right, all-along, all-pick}
 use Rattle.words.specs.Trace as Trace
@@ -23,11 +23,11 @@ use Rattle.words.specs.NormalLaws.{ordered-unique, ordered-prefix, ordered-suff
 use Rattle.conjugacy.specs.Turn.{Turns, same, turn, also}
 use Rattle.conjugacy.specs.TurnLaws.{turns-pick}
 use Rattle.conjugacy.specs.WordLaws.{~-of-≡}
-use Rattle.conjugacy.specs.Settle.{Rounded, quiet, round, settled, cycled, ring}
+use Rattle.conjugacy.specs.Settle.{Rounded, quiet, round, cycled, ring}
 use Rattle.conjugacy.specs.SettleLaws.{Pyramid, pyramid-along, split-~, split-free}
 use Rattle.conjugacy.specs.SettleLaws.{split-pyramid, rounded-settled}
-use Rattle.conjugacy.specs.Rotation.{rotate, rotation, Rotated, stay}
-use Rattle.conjugacy.specs.RotationLaws.{rotated-trans, rotated-halves, cycle-conj, rotation-conj, rotation-none}
+use Rattle.conjugacy.specs.Rotation.{rotation, Rotated, stay}
+use Rattle.conjugacy.specs.RotationLaws.{rotated-trans, rotated-halves, cycle-conj, rotation-conj}
 
 module _ (Γ : Alphabet) (m : ℕ) where
   open Alphabet Γ using (Letter, cmd)
@@ -146,16 +146,6 @@ module _ (Γ : Alphabet) (m : ℕ) where
       right : Under (c ∷ q)
       right = all-right (λ a. cmd a ≤ m) p (c ∷ q) (k .under)
 
-  -- a rotation that is a ring starts at an apex letter
-  pub ring-start : (i : ℕ) (r : Word Γ) → i < length r → Ring (rotate Γ i r)
-      → (c : Letter) × (q : Word Γ) × (drop i r ≡ c ∷ q) × (cmd c ≡ m)
-  ring-start i r h k = go (drop i r) refl k
-    where
-      go : (x : Word Γ) → drop i r ≡ x → Ring (x ++ take i r)
-          → (c : Letter) × (q : Word Γ) × (drop i r ≡ c ∷ q) × (cmd c ≡ m)
-      go [] e k = absurd (omega (arith, length-drop i r, ap (λ (x : Word Γ). length x) e))
-      go (c ∷ q) e k = (c, q, e, ring-head k)
-
   -- an apex letter cycled
 
   -- a word up to its first apex letter: none is there, or the rest starts with it
@@ -228,9 +218,6 @@ module _ (Γ : Alphabet) (m : ℕ) where
   turns-rotated {r = r} s k l =
       let (g, o, j, e) = leads-turns s k in
       subst (Rotated Γ r) (leads-unique j l .0) e
-
-  pub rings-apart : {x y g h r t : Word Γ} → Leads x g r → Leads y h t → rotation Γ r t ≡ none → ¬ Turns Γ x y
-  rings-apart {r = r} {t = t} k l e s = rotation-none Γ r t e (turns-rotated s k l)
 
   -- settling
 

@@ -71,13 +71,6 @@ module _ (Γ : Alphabet) where
           let f : rotate Γ (suc (length r)) (b ∷ r) ≡ t = rw s at e in
           (zero, omega arith, append-nil (b ∷ r) ∙ sym (rotate-all (b ∷ r)) ∙ f)
 
-  pub rotated-sym : {r t : Word Γ} → Rotated Γ r t → Rotated Γ t r
-  rotated-sym {r} {t} k =
-      let (i, h, e) = rotated-place k in
-      let f : take i r ++ drop i r ≡ r = take-append-drop i r in
-      subst (Rotated Γ t) f (subst (λ (x : Word Γ). Rotated Γ x (take i r ++ drop i r)) e
-      (rotated-halves (drop i r) (take i r)))
-
   pub rotated-length : {r t : Word Γ} → Rotated Γ r t → length r ≡ length t
   rotated-length stay = refl
   rotated-length (roll {b = b} {r = r} k) = omega (arith, rotated-length k, length-append r (b ∷ []))

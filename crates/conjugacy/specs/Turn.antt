@@ -1,6 +1,5 @@
 -- Cyclings: the first letter of a word is moved to its end. And cyclically reduced words.
-use mathlib.Core.Path.{_≡_}
-use mathlib.Core.List.{List, [], _∷_, _++_}
+use mathlib.Core.List.{[], _∷_, _++_}
 use Rattle.words.specs.Alphabet.{Alphabet, Word}
 use Rattle.words.specs.Trace as Trace
 use Rattle.words.specs.Trace.{Pick, First}

@@ -77,11 +77,6 @@ module _ (c : List ℕ) where
 
   -- two plans
 
-  pub forms-verdict : (v w : List ℕ)
-      → cores-joined? (alphabet c) (coreForm c v) (coreForm c w) ≡ joined? (alphabet c) (letters v) (letters w)
-  forms-verdict v w =
-      cores-verdict (alphabet c) (letters v) (letters w) (coreForm c v) (coreForm c w) (form-~ v) (form-~ w)
-
   module _ {v w x y g h : List ℕ} (few : commands c ≤ 24) (pv : Passing (commands c) v) (pw : Passing (commands c) w)
       (k : Stripped c v x g) (l : Stripped c w y h) where
     -- with no commands there are no letters

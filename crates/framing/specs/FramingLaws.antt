@@ -11,7 +11,6 @@ use lib.Seq.{length-take-le, drop-length, drop-cons, drop-drop}
 use lib.Seq.{take-append-seam, drop-append-seam, getD-take, getD-drop}
 use lib.Dec.{leb, eqb}
 use borrow.Author.Tests.{le-leb, lt-leb, leb-true, eq-eqb, ne-eqb, eqb-true}
-use Rattle.framing.specs.declared.Frame.{Frame}
 use Rattle.framing.specs.declared.Frame.the-variants.{Badly, Well}
 use Rattle.framing.specs.declared.Places.{Places}
 use Rattle.framing.specs.Framing.{

@@ -2,13 +2,13 @@
 -- left.
 use Prim.Native.Nat.{ℕ, _+_, _-_, _<_, _≤_}
 use mathlib.Core.Path.{_≡_, refl, sym, _∙_, ap}
-use mathlib.Core.List.{List, [], _∷_, _++_, append-nil}
+use mathlib.Core.List.{List, [], _++_, append-nil}
 use native.Mathlib.Omega.{arith}
 use native.Mathlib.Decide.{decLt}
 use lib.ListN.{length, getD, take, drop, set, length-set, take-append-drop}
 use lib.Seq.{length-take-le}
 use Rattle.words.specs.All.{all-pick}
-use Rattle.words.specs.Trace.{Pick, First}
+use Rattle.words.specs.Trace.{First}
 use Rattle.words.specs.TraceLaws.{first-none, pick-length}
 use Rattle.words.specs.Normal.{lex}
 use Rattle.words.specs.NormalLaws.{Least, lex-pick}

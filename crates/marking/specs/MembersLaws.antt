@@ -2,7 +2,7 @@
 use Prim.Native.Nat.{ℕ, zero, suc, _+_, _-_, _≤_, _<_}
 use native.Mathlib.Numerals.{add-one}
 use native.Mathlib.Omega.{arith}
-use mathlib.Core.Path.{_≡_, refl, sym, _∙_, ap}
+use mathlib.Core.Path.{_≡_, refl, sym, _∙_}
 use mathlib.Core.Bool.{Bool, true, false}
 use mathlib.Core.List.{List, [], _∷_}
 use lib.ListN.{length, getD, drop, drop-of-length-le}
@@ -10,7 +10,7 @@ use lib.Seq.{drop-cons}
 use borrow.Author.Tests.{eq-eqb, ne-eqb}
 use Rattle.catalogue.specs.Catalogue.{stands}
 use Rattle.catalogue.specs.Conflict.{bit}
-use Rattle.marking.specs.Marks.{Shape, pair, pairs, member, members, markedIf}
+use Rattle.marking.specs.Marks.{Shape, pairs, member, members, markedIf}
 use Rattle.marking.specs.MarksLaws.{Fit, pair-shape}
 
 -- the members of a row of flags

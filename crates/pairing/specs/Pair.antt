@@ -2,7 +2,7 @@
 -- in a row.
 use Prim.Native.Nat.{ℕ, zero, suc, _+_, _*_, _≤_}
 use mathlib.Core.Path.{_≡_}
-use mathlib.Core.Bool.{true, false, _&&_}
+use mathlib.Core.Bool.{false, _&&_}
 use mathlib.Core.List.{List, [], _++_}
 use lib.ListN.{length, take, getD}
 use lib.Dec.{eqb}

@@ -7,5 +7,4 @@ pub mod Merge
 pub mod MergeLaws
 pub mod Copy
 pub mod CopyLaws
-pub mod ApexLaws
 pub mod LetterLaws

@@ -3,7 +3,7 @@
 -- height.
 use Prim.Native.Nat.{ℕ, _+_, _<_, _≤_}
 use mathlib.Core.Path.{_≡_}
-use mathlib.Core.List.{List, [], _∷_, reverse}
+use mathlib.Core.List.{List, [], reverse}
 use lib.ListN.{length, getD, take}
 use Rattle.words.specs.Stack.{proj}
 use Rattle.plan.specs.Letters.{alphabet}

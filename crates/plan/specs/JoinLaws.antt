@@ -1,6 +1,6 @@
 -- Lead-ins of plans and conjugating words are the same thing; and a lead-in is checked by v·u and u·w.
-use Prim.Native.Nat.{ℕ, _≤_}
-use mathlib.Core.Path.{_≡_, refl, sym, _∙_, ap, subst, subst₂}
+use Prim.Native.Nat.{ℕ}
+use mathlib.Core.Path.{_≡_, refl, _∙_, ap, subst₂}
 use mathlib.Core.Bool.{Bool, true, false, not}
 use mathlib.Core.List.{List, [], _∷_, _++_}
 use mathlib.Core.Logic.{_↔_}
@@ -13,17 +13,10 @@ use Rattle.words.specs.GroupLaws.{conj-of, conj-swap}
 use Rattle.catalogue.specs.Catalogue.{commands}
 use Rattle.plan.specs.Plan.{isCommand, passes, Passing}
 use Rattle.plan.specs.Byte.{undone}
-use Rattle.plan.specs.Letters.{letters, letters-step, alphabet, normalForm, undoneBefore}
+use Rattle.plan.specs.Letters.{letters, letters-step, alphabet, undoneBefore}
 use Rattle.plan.specs.CommandLaws.{isCommand-undone, passes-cases, command-passes}
 use Rattle.plan.specs.PlanLaws.{passes-low}
-use Rattle.plan.specs.LettersLaws.{
-  Commands,
-  letters-commands,
-  letters-undone,
-  letters-append,
-  letters-same,
-  commands-passing,
-}
+use Rattle.plan.specs.LettersLaws.{letters-commands, letters-undone, letters-append, letters-same}
 use Rattle.plan.specs.Step.{Equal}
 use Rattle.plan.specs.StepLaws.{
   equal-exact,

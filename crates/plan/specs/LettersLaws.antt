@@ -2,7 +2,7 @@
 use Prim.Native.Nat.{ℕ, suc, _≤_}
 use mathlib.Core.Path.{_≡_, refl, sym, _∙_, ap}
 use mathlib.Core.Bool.{Bool, true, false}
-use mathlib.Core.List.{List, [], _∷_, _++_, reverse, reverseAux}
+use mathlib.Core.List.{List, [], _∷_, _++_, reverseAux}
 use native.Mathlib.Omega.{arith}
 use lib.ListN.{length}
 use lib.Dec.{eqb}
@@ -47,10 +47,6 @@ letters-onto (b ∷ v) w = letters-onto v (b ∷ w) ∙ go (eqb b 0)
         → reverseAux (letters v) (letters-step t b (letters w)) ≡ reverseAux (letters-step t b (letters v)) (letters w)
     go true = refl
     go false = refl
-
-pub letters-reverse : (v : List ℕ) → letters (reverse v) ≡ reverse (letters v)
-unfolding letters letters-step
-letters-reverse v = letters-onto v []
 
 pub letters-length : (v : List ℕ) → length (letters v) ≤ length v
 unfolding letters letters-step

@@ -1,7 +1,7 @@
 -- The normal form of a plan of bytes: equal to the plan, no longer than any equal plan, and the first of those of its
 -- length. Equal plans are those of one normal form.
 use Prim.Native.Nat.{ℕ, _≤_}
-use mathlib.Core.Path.{_≡_, refl, sym, _∙_, ap, subst}
+use mathlib.Core.Path.{_≡_, refl, sym, _∙_, ap}
 use mathlib.Core.List.{List, [], _∷_}
 use mathlib.Core.Bool.{Bool, true, false}
 use mathlib.Core.Logic.{_↔_, _⊎_, inl, inr}
@@ -9,14 +9,14 @@ use native.Mathlib.Omega.{arith}
 use native.Mathlib.Nat.{le-trans}
 use lib.Dec.{eqb}
 use lib.ListN.{length}
-use Rattle.words.specs.Group.{_≈_, back, then}
-use Rattle.words.specs.Normal.{nf, Smaller}
+use Rattle.words.specs.Group.{_≈_}
+use Rattle.words.specs.Normal.{Smaller}
 use Rattle.words.specs.NormalLaws.{nf-≈, nf-complete, nf-sound, nf-length, nf-least, nf-first}
 use Rattle.words.specs.ReduceLaws.{reduce-length}
 use Rattle.words.specs.LetterLaws.{all-nf}
 use Rattle.catalogue.specs.Catalogue.{commands}
 use Rattle.plan.specs.Plan.{isCommand, Passing}
-use Rattle.plan.specs.Letters.{letters-step, letters, alphabet, normalForm}
+use Rattle.plan.specs.Letters.{letters, alphabet, normalForm}
 use Rattle.plan.specs.LettersLaws.{
   Commands,
   letters-commands,

@@ -4,7 +4,7 @@
 // at place 19 the letter of the call: n (normal form), c (core), e (equal), l (loops) or j (whether u leads from v to
 // w).
 
-ghost use Prim.Native.Nat.{_<_, _≤_};
+ghost use Prim.Native.Nat.{_<_};
 use rewriting::at;
 
 mod every;

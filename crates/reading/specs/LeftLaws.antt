@@ -3,13 +3,13 @@
 use Prim.Native.Nat.{ℕ, suc, _+_, _-_, _<_, _≤_}
 use mathlib.Core.Path.{_≡_, refl, sym, _∙_, ap, subst}
 use mathlib.Core.Bool.{Bool, true, false}
-use mathlib.Core.List.{List, [], _∷_, _++_, head-eq-of-cons-eq}
+use mathlib.Core.List.{List, [], _∷_, head-eq-of-cons-eq}
 use native.Mathlib.Omega.{arith}
 use native.Mathlib.Decide.{decLt}
 use lib.ListN.{length, getD, take, drop, length-append}
 use lib.Dec.{eqb}
 use lib.Seq.{slice, slice-cons, length-slice, drop-drop, drop-at}
-use Rattle.words.specs.All.{All, all-pick}
+use Rattle.words.specs.All.{all-pick}
 use Rattle.words.specs.Trace.{Pick, First}
 use Rattle.words.specs.TraceLaws.{first-none}
 use Rattle.words.specs.Stack.{mark, mark-step, proj}

@@ -1,9 +1,9 @@
 -- A whole piling, with every bottom at 0, has left the word piled up.
-use Prim.Native.Nat.{ℕ, _+_, _<_}
-use mathlib.Core.Path.{_≡_, _∙_, ap}
+use Prim.Native.Nat.{ℕ, _+_}
+use mathlib.Core.Path.{_∙_, ap}
 use mathlib.Core.List.{List, [], reverse}
 use native.Mathlib.Omega.{arith}
-use lib.ListN.{length, getD}
+use lib.ListN.{getD}
 use lib.Seq.{slice}
 use Rattle.words.specs.All.{All, all-reverse}
 use Rattle.words.specs.StackLaws.{stack-read}

@@ -1,14 +1,14 @@
 -- The loop that reads a piling off: l letters are written, and the beads left are the stacks of a word y.
 use Prim.Native.Nat.{ℕ, _+_, _<_, _≤_}
-use mathlib.Core.Path.{_≡_, refl, sym, _∙_, ap, subst}
-use mathlib.Core.List.{List, [], _∷_, _++_, append-nil}
+use mathlib.Core.Path.{_≡_, refl, sym, _∙_, ap}
+use mathlib.Core.List.{List, [], _++_, append-nil}
 use native.Mathlib.Omega.{arith}
 use lib.ListN.{length, getD, take, drop, set, length-set, take-append-drop}
 use lib.Seq.{length-take-le}
 use Rattle.words.specs.Normal.{lex}
 use Rattle.words.specs.NormalLaws.{lex-pick}
 use Rattle.words.specs.WritingLaws.{take-more, drop-more}
-use Rattle.words.specs.Trace.{Pick, First}
+use Rattle.words.specs.Trace.{First}
 use Rattle.words.specs.TraceLaws.{pick-length}
 use Rattle.catalogue.specs.Conflict.{Conflicts}
 use Rattle.beads.specs.Heights.{Both, Changed}

@@ -2,8 +2,8 @@
 -- bottom up to the height. And what reading it off yields.
 use Prim.Native.Nat.{ℕ, _+_, _<_, _≤_}
 use mathlib.Core.Path.{_≡_}
-use mathlib.Core.List.{List, [], _∷_, _++_}
-use lib.ListN.{length, getD, take, drop}
+use mathlib.Core.List.{List, [], _++_}
+use lib.ListN.{length, getD, drop}
 use lib.Seq.{slice}
 use Rattle.words.specs.All.{All}
 use Rattle.words.specs.Normal.{lex}

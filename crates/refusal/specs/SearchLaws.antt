@@ -7,7 +7,7 @@ use native.Mathlib.Omega.{arith}
 use mathlib.Core.Path.{_≡_, refl, sym, _∙_, ap}
 use mathlib.Core.Bool.{Bool, true, false}
 use mathlib.Core.Option.{Option, none, some}
-use Rattle.refusal.specs.Line.{Line, Answer, refused, given, orElse}
+use Rattle.refusal.specs.Line.{Line, refused, given, orElse}
 use Rattle.refusal.specs.Search.{firstOf, found-step}
 
 none-not : {A : Type 0} {a : A} → some a ≡ none → ⊥

@@ -7,8 +7,7 @@ use mathlib.Core.List.{List, [], _∷_, _++_, append-assoc, append-nil}
 use lib.ListN.{length, getD, take, drop, set, length-append, length-drop, take-append-drop}
 use lib.Seq.{length-take-le, take-suc, drop-cons, set-at, take-at, take-all, drop-length, append-snoc}
 use Rattle.plan.specs.Byte.{undone}
-use Rattle.plan.specs.Letters.{letters, undoneBefore}
-use Rattle.plan.specs.LettersLaws.{letters-append}
+use Rattle.plan.specs.Letters.{undoneBefore}
 use Rattle.row.specs.Row.{Appended}
 
 pub appended-start : (row : List ℕ) (at : ℕ) → Appended row at [] row at
@@ -50,10 +49,6 @@ module _ {before after word : List ℕ} {at end : ℕ} (a : Appended before at w
   appended-take h =
       ap (take end) (a .bytes)
       ∙ take-at (take at before ++ word) (drop end before) end (head-length (omega (arith, a .ends)))
-
-  pub appended-letters : end ≤ length before
-      → letters (take end after) ≡ letters (take at before) ++ letters word
-  appended-letters h = ap letters (appended-take h) ∙ letters-append (take at before) word
 
 -- undoing, as lists
 

@@ -1,6 +1,6 @@
 -- A property of every element of a list, or of every letter of a word.
 use mathlib.Core.List.{List, [], _∷_, _++_, reverse, reverseAux, List·Memᴰ, List·Memᴰ·head, List·Memᴰ·tail}
-use mathlib.Core.Path.{_≡_, sym, subst}
+use mathlib.Core.Path.{sym, subst}
 use Rattle.words.specs.Alphabet.{Alphabet, Word}
 use Rattle.words.specs.Trace as Trace
 use Rattle.words.specs.Trace.{Pick, here, there, done, cons, swap, next}

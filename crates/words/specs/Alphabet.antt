@@ -2,7 +2,7 @@
 -- Nothing says that a letter differs from its undo.
 use Prim.Native.Nat.{ℕ}
 use mathlib.Core.Path.{_≡_}
-use mathlib.Core.Bool.{Bool, true, false}
+use mathlib.Core.Bool.{Bool, true}
 use mathlib.Core.List.{List}
 
 pub record Alphabet : Type 1 where

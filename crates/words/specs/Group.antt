@@ -1,8 +1,8 @@
 -- Equality in the right-angled Artin group of an alphabet, on words: swaps of independent neighbours, and a letter
 -- beside its undo put in or taken out. Undoing a word, and conjugating by one.
 use mathlib.Core.Path.{_≡_}
-use mathlib.Core.Bool.{Bool, true, false}
-use mathlib.Core.List.{List, [], _∷_, _++_}
+use mathlib.Core.Bool.{false}
+use mathlib.Core.List.{[], _∷_, _++_}
 use Rattle.words.specs.Alphabet.{Alphabet, Word, dep}
 use Rattle.words.specs.Trace.{First}
 

@@ -155,16 +155,6 @@ module _ (Γ : Alphabet) where
   undo-left u = subst (λ (x : Word Γ). x ≈ []) (undo-onto u u)
       (subst (λ (x : Word Γ). undo Γ u x ≈ []) (append-nil u) (undo-cancel u []))
 
-  pub ≈-cancel-left : (u : Word Γ) {v w : Word Γ} → (u ++ v) ≈ (u ++ w) → v ≈ w
-  ≈-cancel-left u {v} {w} e = then (back (undo-cancel u v)) (then (≈-undo-onto u e) (undo-cancel u w))
-
-  pub ≈-cancel-right : {v w : Word Γ} (u : Word Γ) → (v ++ u) ≈ (w ++ u) → v ≈ w
-  ≈-cancel-right {v} {w} u e = then (back (lose v)) (then (≈-after e (undo Γ u [])) (lose w))
-    where
-      lose : (x : Word Γ) → (x ++ u ++ undo Γ u []) ≈ x
-      lose x = then (≈-of-≡ (append-assoc x u (undo Γ u [])))
-          (then (≈-before x (undo-right u)) (≈-of-≡ (append-nil x)))
-
   -- conjugating
   pub conj-nil : (x : Word Γ) → conj Γ [] x ≡ x
   unfolding undo conj

@@ -3,7 +3,7 @@ use mathlib.Core.List.{[], _∷_}
 use Rattle.words.specs.Alphabet.{Alphabet, Word}
 use Rattle.words.specs.All.{All, all-pick, all-along}
 use Rattle.words.specs.TraceLaws.{~-sym}
-use Rattle.words.specs.Reduce.{act, reduce}
+use Rattle.words.specs.Reduce.{reduce}
 use Rattle.words.specs.ReduceLaws.{Act, cut, put, acts}
 use Rattle.words.specs.Normal.{nf}
 use Rattle.words.specs.NormalLaws.{nf-~}

@@ -6,7 +6,7 @@ use mathlib.Core.List.{List, [], _∷_}
 use mathlib.Core.Option.{Option, none, some}
 use lib.ListN.{length}
 use lib.Dec.{ltb}
-use Rattle.words.specs.Alphabet.{Alphabet, Word, dep}
+use Rattle.words.specs.Alphabet.{Alphabet, Word}
 use Rattle.words.specs.Trace.{First}
 use Rattle.words.specs.Reduce.{without, reduce}
 

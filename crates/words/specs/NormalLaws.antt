@@ -255,9 +255,6 @@ module _ (Γ : Alphabet) where
   pub lex-along : {u v : Word Γ} → u ~ v → lex Γ (length u) u ≡ lex Γ (length v) v
   lex-along {u} {v} e = sorts-lex e (lex-sorts (length v) v refl)
 
-  pub lex-fixed : (w : Word Γ) → Ordered Γ w → lex Γ (length w) w ≡ w
-  lex-fixed w o = ordered-unique (lex Γ (length w) w) w (lex-~ w) (lex-ordered w) o
-
   -- the normal form
 
   pub nf-~ : (w : Word Γ) → nf Γ w ~ reduce Γ w

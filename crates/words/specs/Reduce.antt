@@ -1,7 +1,7 @@
 -- Reduction of a word, computed: letters are taken from the right end and put before what is reduced already, where
 -- a letter whose undo can come first cancels with it.
 use mathlib.Core.Bool.{Bool, true, false}
-use mathlib.Core.List.{List, [], _∷_}
+use mathlib.Core.List.{[], _∷_}
 use mathlib.Core.Option.{Option, none, some}
 use mathlib.Core.Path.{_≡_}
 use Rattle.words.specs.Alphabet.{Alphabet, Word, dep}

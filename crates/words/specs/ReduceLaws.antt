@@ -5,7 +5,7 @@ use mathlib.Core.Path.{_≡_, refl, sym, _∙_, ap, subst}
 use mathlib.Core.Bool.{Bool, true, false, true≢false}
 use mathlib.Core.List.{[], _∷_, _++_, reverse, reverse-reverse, append-assoc}
 use mathlib.Core.Logic.{_↔_}
-use mathlib.Core.Option.{Option, none, some, Option·some-injective, Option·none-ne-some, Option·some-ne-none}
+use mathlib.Core.Option.{Option, none, some}
 use lib.ListN.{length, length-reverse}
 use native.Mathlib.Omega.{arith}
 use Rattle.words.specs.Alphabet.{Alphabet, Word, dep}
@@ -49,37 +49,16 @@ module _ (Γ : Alphabet) where
   sees c [] = unseen (not-first-nil Γ)
   sees c (b ∷ w) = sees-step (Γ .same c b) (dep Γ c b) refl (sees c w)
 
-  sees-some : {c : Letter} {w r : Word Γ} {o : Option (Word Γ)} → Sees c w o → o ≡ some r → Pick Γ c w r
-  sees-some {c} {w} {r} (seen {r = s} p) e = subst (Pick Γ c w) (Option·some-injective s r e) p
-  sees-some {r = r} (unseen n) e = absurd (Option·none-ne-some r e)
-
-  sees-none : {c : Letter} {w : Word Γ} {o : Option (Word Γ)} → Sees c w o → o ≡ none → ¬ First Γ c w
-  sees-none (seen {r = s} p) e = absurd (Option·some-ne-none s e)
-  sees-none (unseen n) e = n
-
   sees-pick : {c : Letter} {w r : Word Γ} {o : Option (Word Γ)} → Sees c w o → Pick Γ c w r → o ≡ some r
   sees-pick (seen p) q = ap some (pick-unique Γ p q)
   sees-pick {r = r} (unseen n) q = absurd (n (r, q))
-
-  sees-not : {c : Letter} {w : Word Γ} {o : Option (Word Γ)} → Sees c w o → ¬ First Γ c w → o ≡ none
-  sees-not (seen {r = r} p) n = absurd (n (r, p))
-  sees-not (unseen n) m = refl
 
   sees-first : {c : Letter} {w : Word Γ} {o : Option (Word Γ)} → Sees c w o → Dec (First Γ c w)
   sees-first (seen {r = r} p) = yes (r, p)
   sees-first (unseen n) = no n
 
-  pub without-some : (c : Letter) (w : Word Γ) {r : Word Γ} → without Γ c w ≡ some r → Pick Γ c w r
-  without-some c w e = sees-some (sees c w) e
-
-  pub without-none : (c : Letter) (w : Word Γ) → without Γ c w ≡ none → ¬ First Γ c w
-  without-none c w e = sees-none (sees c w) e
-
   pub pick-without : {c : Letter} {w r : Word Γ} → Pick Γ c w r → without Γ c w ≡ some r
   pick-without {c} {w} p = sees-pick (sees c w) p
-
-  pub not-without : {c : Letter} {w : Word Γ} → ¬ First Γ c w → without Γ c w ≡ none
-  not-without {c} {w} n = sees-not (sees c w) n
 
   pub first? : (c : Letter) (w : Word Γ) → Dec (First Γ c w)
   first? c w = sees-first (sees c w)

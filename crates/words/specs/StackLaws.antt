@@ -5,13 +5,13 @@ use native.Mathlib.Omega.{arith}
 use mathlib.Core.Path.{_≡_, refl, sym, _∙_, ap, subst}
 use mathlib.Core.Logic.{_⊎_, inl, inr}
 use mathlib.Core.Bool.{Bool, true, false, true≢false}
-use mathlib.Core.List.{List, [], _∷_, _++_, nil≢cons, head-eq-of-cons-eq, tail-eq-of-cons-eq}
+use mathlib.Core.List.{[], _∷_, _++_, nil≢cons, head-eq-of-cons-eq, tail-eq-of-cons-eq}
 use mathlib.Core.List.{append-nil, append-assoc, append-cancel-left}
 use mathlib.Core.List.{reverse, reverseAux, reverseAux-eq, reverse-append, reverse-reverse}
 use lib.ListN.{length, length-append}
 use lib.Dec.{eqb}
-use borrow.Author.Tests.{eqb-true, eqb-false, eq-eqb, ne-eqb}
-use Rattle.words.specs.All.{All, all-pick, all-every}
+use borrow.Author.Tests.{eqb-true, eqb-false, eq-eqb}
+use Rattle.words.specs.All.{All, all-pick}
 use Rattle.words.specs.Alphabet.{Alphabet, Word, dep}
 use Rattle.words.specs.Trace as Trace
 use Rattle.words.specs.Trace.{Pick, here, there, First, done, cons, swap, next}
@@ -39,17 +39,9 @@ module _ (Γ : Alphabet) (blank : Γ .Letter) where
 
   -- marks
 
-  pub mark-apart : (k : ℕ) (b : Letter) → conf k (cmd b) ≡ false → mark k b ≡ []
-  unfolding Stack.mark Stack.mark-step
-  mark-apart k b e = rw e
-
   pub mark-own : (b : Letter) → mark (cmd b) b ≡ b ∷ []
   unfolding Stack.mark Stack.mark-step
   mark-own b = rw (Γ .conf-refl (cmd b), eq-eqb (cmd b) (cmd b) refl)
-
-  pub mark-other : (k : ℕ) (b : Letter) → conf k (cmd b) ≡ true → ¬ (cmd b ≡ k) → mark k b ≡ blank ∷ []
-  unfolding Stack.mark Stack.mark-step
-  mark-other k b e n = rw (e, ne-eqb (cmd b) k n)
 
   -- a mark is nothing, the letter, or the blank
   pub data Marked (k : ℕ) (b : Letter) : Word Γ → Type 0 where
@@ -216,9 +208,3 @@ module _ (Γ : Alphabet) (blank : Γ .Letter) where
       let same : (k : ℕ) → Q k → proj k u ≡ proj k r = λ k q. proj-rest k u p (e k q) in
       let f : u ~ r = proj-exact-on Q u r (n .1) (g .1) (all-pick Γ (λ b. Q (cmd b)) p h .1) same in
       next (cons f) (~-sym Γ (pick-front Γ p))
-
-  pub proj-exact : (u v : Word Γ) → NoBlank u → ((k : ℕ) → proj k u ≡ proj k v) → u ~ v
-  proj-exact u v n e = proj-exact-on (λ k. Unit {0}) u v n (every u) (every v) (λ k q. e k)
-    where
-      every : (w : Word Γ) → All (λ b. Unit {0}) w
-      every w = all-every (λ b. Unit {0}) (λ b. tt) w

@@ -1,7 +1,7 @@
 -- Words up to swaps of independent neighbours (traces), and which letters can come first.
 use mathlib.Core.Path.{_≡_}
-use mathlib.Core.Bool.{Bool, true, false}
-use mathlib.Core.List.{List, [], _∷_}
+use mathlib.Core.Bool.{false}
+use mathlib.Core.List.{[], _∷_}
 use Rattle.words.specs.Alphabet.{Alphabet, Word, dep}
 
 module _ (Γ : Alphabet) where

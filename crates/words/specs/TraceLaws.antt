@@ -23,9 +23,6 @@ module _ (Γ : Alphabet) where
   pub dep-cmd : {c d : Letter} → cmd c ≡ cmd d → dep Γ c d ≡ true
   dep-cmd {c} {d} e = ap (λ k. Γ .conf (cmd c) k) (sym e) ∙ Γ .conf-refl (cmd c)
 
-  pub dep-refl : (c : Letter) → dep Γ c c ≡ true
-  dep-refl c = Γ .conf-refl (cmd c)
-
   pub dep-not : {c d : Letter} → dep Γ c d ≡ false → ¬ (c ≡ d)
   dep-not {c} {d} f e = true≢false (sym (dep-cmd {c = c} {d = d} (ap cmd e)) ∙ f)
 

@@ -4,7 +4,7 @@ use native.Mathlib.Omega.{arith}
 use mathlib.Core.Path.{ap}
 use Rattle.refusal.specs.Search.{lineAt}
 use Rattle.refusal.specs.SearchLaws.{Searching, search-start, search-again, search-hit, search-end}
-use Rattle.catalogue.specs.Catalogue.{commands, records, headPlace}
+use Rattle.catalogue.specs.Catalogue.{commands, headPlace}
 use Rattle.catalogue.specs.SoundLaws.{decides, passes, highHead, head-high, head-low}
 use Rattle.catalogue.proofs.heads.Statement.{statement}
 use Rattle.catalogue.proofs.heads.Tie as tie

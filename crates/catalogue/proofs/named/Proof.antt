@@ -5,7 +5,7 @@ use mathlib.Core.Path.{ap}
 use mathlib.Core.Logic.{⊎-elim}
 use Rattle.refusal.specs.Search.{lineAt}
 use Rattle.refusal.specs.SearchLaws.{Searching, search-start, search-again, search-hit, search-end}
-use Rattle.catalogue.specs.Catalogue.{commands, records, commandPlace}
+use Rattle.catalogue.specs.Catalogue.{records, commandPlace}
 use Rattle.catalogue.specs.SoundLaws.{decides, passes, wrongCommand, command-zero, command-high, command-fine}
 use Rattle.catalogue.proofs.named.Statement.{statement}
 use Rattle.catalogue.proofs.named.Tie as tie

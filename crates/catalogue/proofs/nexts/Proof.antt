@@ -5,7 +5,7 @@ use mathlib.Core.Path.{ap}
 use borrow.Author.Tests.{lt-ltb, le-ltb}
 use Rattle.refusal.specs.Search.{lineAt}
 use Rattle.refusal.specs.SearchLaws.{Searching, search-start, search-again, search-hit, search-end}
-use Rattle.catalogue.specs.Catalogue.{commands, records, nextPlace, next}
+use Rattle.catalogue.specs.Catalogue.{records, nextPlace, next}
 use Rattle.catalogue.specs.SoundLaws.{decides, passes, highNext}
 use Rattle.catalogue.proofs.nexts.Statement.{statement}
 use Rattle.catalogue.proofs.nexts.Tie as tie

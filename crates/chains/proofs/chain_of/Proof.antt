@@ -1,8 +1,7 @@
 -- `chain_of` walks a chain, or marks it as that of the first command with the same head.
-use Prim.Native.Nat.{ℕ, _+_, _<_, _≤_}
+use Prim.Native.Nat.{ℕ, _+_, _<_}
 use native.Mathlib.Omega.{arith}
 use mathlib.Core.Path.{refl, sym, _∙_}
-use mathlib.Core.List.{List}
 use lib.ListN.{getD}
 use Rattle.chains.specs.Known.{Walked}
 use Rattle.chains.specs.KnownLaws.{

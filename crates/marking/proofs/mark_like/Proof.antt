@@ -1,7 +1,7 @@
 -- `mark_like` marks the members of a row one by one. The loop's invariant: those from j on are still to be marked.
 use Prim.Native.Nat.{_-_}
 use native.Mathlib.Omega.{arith}
-use mathlib.Core.List.{List, []}
+use mathlib.Core.List.{[]}
 use lib.ListN.{getD}
 use Rattle.marking.specs.MembersLaws.{Liking, liking-start, liking-again, liking-end}
 use Rattle.marking.proofs.mark_like.Statement.{statement}

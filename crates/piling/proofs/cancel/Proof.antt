@@ -2,8 +2,7 @@
 -- every word that is piled, and the letter cuts it; else it cannot.
 use Prim.Native.Nat.{_≤_}
 use native.Mathlib.Omega.{arith}
-use mathlib.Core.Path.{_∙_, sym, refl}
-use mathlib.Core.Bool.{false≢true, true≢false}
+use mathlib.Core.Path.{_∙_, sym}
 use mathlib.Core.List.{List}
 use lib.ListN.{getD}
 use denote.Ref.{now}
