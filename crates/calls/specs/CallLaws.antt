@@ -1,13 +1,14 @@
 -- Laws of the calls' definitions: what an answer tells of the table, of an area, of the plans.
 use Prim.Native.Nat.{ℕ, _≤_}
-use mathlib.Core.Path.{_≡_, refl, sym, ap₂}
-use mathlib.Core.Bool.{Bool, true, false, _&&_}
+use mathlib.Core.Path.{_≡_, refl, ap₂}
+use mathlib.Core.Bool.{Bool, true, false}
 use mathlib.Core.List.{List, [], _∷_}
 use mathlib.Core.Option.{Option, none, some}
 use mathlib.Core.Logic.{_↔_}
 use native.Mathlib.Omega.{arith}
 use lib.Dec.{ltb, eqb}
 use borrow.Author.Tests.{ltb-false, eqb-true, eq-eqb}
+use Rattle.words.specs.BoolLaws.{and-both, true-same}
 use Rattle.refusal.specs.Line.{Line, line, holds, refused, given, firstLine, orElse}
 use Rattle.refusal.specs.LineLaws.{none-holds}
 use Rattle.catalogue.specs.Catalogue.{commands, catalogueLines}
@@ -39,10 +40,6 @@ pub same-refl : (v : List ℕ) → sameBytes v v ≡ true
 same-refl [] = refl
 same-refl (a ∷ v) = rw (eq-eqb a a refl) (same-refl v)
 
-and-true : (p q : Bool) → (p && q) ≡ true → (p ≡ true) × (q ≡ true)
-and-true true q e = (refl, e)
-and-true false q e = absurd (let z : _≡_ {A = ℕ} 0 1 = cc in omega arith)
-
 pub same-bytes : (v w : List ℕ) → (sameBytes v w ≡ true) ↔ (v ≡ w)
 same-bytes v w = (there v w, λ e. rw (← e) (same-refl v))
   where
@@ -54,14 +51,10 @@ same-bytes v w = (there v w, λ e. rw (← e) (same-refl v))
     there [] (b ∷ w) e = absurd (no e)
     there (a ∷ v) [] e = absurd (no e)
     there (a ∷ v) (b ∷ w) e =
-        let h = and-true (eqb a b) (sameBytes v w) e in
+        let h = and-both (eqb a b) (sameBytes v w) e in
         ap₂ (λ x y. x ∷ y) (eqb-true a b (h .0)) (there v w (h .1))
 
 -- a comparison that is exact gives the answer that the definition computes
 pub compared : (b : Bool) (v w : List ℕ) → (b ≡ true) ↔ (v ≡ w) → b ≡ sameBytes v w
-compared b v w h = go b (sameBytes v w) (λ e. same-bytes v w .1 (h .0 e)) (λ e. h .1 (same-bytes v w .0 e))
-  where
-    go : (p q : Bool) → (p ≡ true → q ≡ true) → (q ≡ true → p ≡ true) → p ≡ q
-    go true q f g = sym (f refl)
-    go false true f g = g refl
-    go false false f g = refl
+compared b v w h =
+    true-same b (sameBytes v w) (λ e. same-bytes v w .1 (h .0 e)) (λ e. h .1 (same-bytes v w .0 e))

@@ -6,6 +6,7 @@ use mathlib.Core.List.{List, [], _∷_, List·Memᴰ, List·Memᴰ·head, List·
 use mathlib.Core.Logic.{_↔_, _⊎_, inl, inr}
 use lib.Dec.{eqb}
 use borrow.Author.Tests.{eqb-true, eqb-false, eq-eqb, ne-eqb}
+use Rattle.words.specs.BoolLaws.{or-either}
 use Rattle.catalogue.specs.Catalogue.{chain, stands}
 use Rattle.catalogue.specs.Conflict.{conflict}
 
@@ -29,10 +30,6 @@ conflict-refl c a = rw (eq-eqb a a refl)
 pub conflict-sym : (c : List ℕ) (a b : ℕ) → conflict c a b ≡ conflict c b a
 unfolding conflict
 conflict-sym c a b = ap₂ (λ p q. p || q) (eqb-sym a b) (or-comm (stands b (chain c a)) (stands a (chain c b)))
-
-or-either : (p q : Bool) → (p || q) ≡ true → (p ≡ true) ⊎ (q ≡ true)
-or-either true q e = inl refl
-or-either false q e = inr e
 
 or-right : (p q : Bool) → q ≡ true → (p || q) ≡ true
 or-right true q e = refl

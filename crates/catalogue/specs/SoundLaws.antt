@@ -2,12 +2,13 @@
 use Prim.Native.Nat.{ℕ, _+_, _*_, _≤_, _<_}
 use native.Mathlib.Omega.{arith}
 use mathlib.Core.Path.{_≡_, refl, sym, _∙_, ap}
-use mathlib.Core.Bool.{Bool, true, false, not, _||_, or-true, true≢false}
+use mathlib.Core.Bool.{Bool, true, false, not, _||_, or-true}
 use mathlib.Core.List.{List}
 use mathlib.Core.Option.{Option, none, some}
 use lib.ListN.{length, getD}
 use lib.Dec.{ltb, eqb}
 use borrow.Author.Tests.{lt-ltb, le-ltb, eq-eqb, ne-eqb, le-leb, ltb-false, eqb-true, eqb-false, not-false}
+use Rattle.words.specs.BoolLaws.{or-neither}
 use Rattle.refusal.specs.Line.{Line, line, toldChecked, refused, orElse, holds}
 use Rattle.refusal.specs.Search.{lineAt}
 use Rattle.refusal.specs.SearchLaws.{search-none, passed-line, refused-line}
@@ -94,23 +95,19 @@ none-at : (n p : ℕ) (f : ℕ → ℕ) (o : Option ℕ) → lineAt n p f o ≡ 
 none-at n p f none e = refl
 none-at n p f (some i) e = absurd (some-none e)
 
-or-none : (p q : Bool) → (p || q) ≡ false → (p ≡ false) × (q ≡ false)
-or-none false q e = (refl, e)
-or-none true q e = absurd (true≢false e)
-
 module _ (c : List ℕ) where
   pub framed-from : frameLine c ≡ none → Framed c
   framed-from e =
       let t = eqb (length c) (2 + commands c + 2 * records c) in
       let h = none-held (ltb (length c) 2 || not t) (ltb 24 (commands c)) _ _ e in
-      let f = not-false t (or-none (ltb (length c) 2) (not t) (h .0) .1) in
+      let f = not-false t (or-neither (ltb (length c) 2) (not t) (h .0) .1) in
       record { size = eqb-true (length c) (2 + commands c + 2 * records c) f; few = ltb-false 24 (commands c) (h .1) }
 
   module _ (f : Framed c) (eh : headLine c ≡ none) (en : nextLine c ≡ none) (er : recordLine c ≡ none) where
     named-from : (j : ℕ) → 1 ≤ j → j ≤ records c → (1 ≤ command c j) × (command c j ≤ commands c)
     named-from j l h =
         let w = search-none (wrongCommand c) (records c) 1 (none-at 4 0 (commandPlace c) _ er) j l (omega arith) in
-        let o = or-none (eqb (command c j) 0) (ltb (commands c) (command c j)) w in
+        let o = or-neither (eqb (command c j) 0) (ltb (commands c) (command c j)) w in
         let z = eqb-false (command c j) 0 (o .0) in
         (omega arith, ltb-false (commands c) (command c j) (o .1))
 

@@ -10,6 +10,7 @@ use mathlib.Core.List.{List, [], _∷_, _++_, List·Memᴰ·head, List·Memᴰ·
 use lib.ListN.{length, length-append}
 use lib.Dec.{eqb}
 use borrow.Author.Tests.{eqb-true, eq-eqb}
+use Rattle.words.specs.BoolLaws.{and-both}
 use Rattle.words.specs.All.{All}
 use Rattle.words.specs.Alphabet.{Alphabet, Word}
 use Rattle.words.specs.Trace as Trace
@@ -31,7 +32,7 @@ use Rattle.conjugacy.specs.CommandLaws.{all-occurs, commands-turns}
 use Rattle.conjugacy.specs.PartLaws.{ascending-once, shares, label-same, apexes-same, apexes-ascending, apexes-~}
 use Rattle.conjugacy.specs.Decision.{alike?, part-ring, rotated?, parts-joined?, cores-joined?, joined?}
 use Rattle.conjugacy.specs.LeadIn.{parts-lead, lead-in}
-use Rattle.conjugacy.specs.LeadInLaws.{both, apical-part, settling-leads, rotated-test}
+use Rattle.conjugacy.specs.LeadInLaws.{apical-part, settling-leads, rotated-test}
 use Rattle.conjugacy.specs.JoinLaws.{part-second, apical-second}
 use Rattle.conjugacy.specs.JoinLaws.{parts-lead-conj, parts-lead-length}
 
@@ -41,7 +42,7 @@ alike-true [] [] t = refl
 alike-true [] (j ∷ js) t = absurd (true≢false (sym t))
 alike-true (i ∷ is) [] t = absurd (true≢false (sym t))
 alike-true (i ∷ is) (j ∷ js) t =
-    let (e, f) = both (eqb i j) (alike? is js) t in
+    let (e, f) = and-both (eqb i j) (alike? is js) t in
     rw (eqb-true i j e, alike-true is js f)
 
 pub alike-refl : (is : List ℕ) → alike? is is ≡ true
@@ -106,7 +107,7 @@ module _ (Γ : Alphabet) where
       → (commands Γ x ≡ commands Γ y) × (parts-joined? Γ (apexes Γ x) x y ≡ true)
   unfolding cores-joined?
   cores-true x y t =
-      let (a, b) = both (alike? (commands Γ x) (commands Γ y)) (parts-joined? Γ (apexes Γ x) x y) t in
+      let (a, b) = and-both (alike? (commands Γ x) (commands Γ y)) (parts-joined? Γ (apexes Γ x) x y) t in
       (alike-true (commands Γ x) (commands Γ y) a, b)
 
   pub cores-lead : (x y : Word Γ) → cores-joined? Γ x y ≡ true → conj Γ (parts-lead Γ (apexes Γ x) x y) x ≈ y

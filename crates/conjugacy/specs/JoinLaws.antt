@@ -8,6 +8,7 @@ use mathlib.Core.Logic.{_⊎_, inl, inr, _≢_}
 use mathlib.Core.List.{List, [], _∷_, _++_, List·Memᴰ·head, List·Memᴰ·tail}
 use lib.ListN.{length, length-append}
 use lib.Dec.{eqb}
+use Rattle.words.specs.BoolLaws.{and-both}
 use Rattle.words.specs.All.{All, all-append, all-map, all-mem}
 use Rattle.words.specs.Alphabet.{Alphabet, Word}
 use Rattle.words.specs.Group as Group
@@ -23,7 +24,7 @@ use Rattle.conjugacy.specs.PartLaws.{Once, Independent, independent-swap
 use Rattle.conjugacy.specs.PartLaws.{share-occurs, label-same, apexes-same, part-share, part-occurs}
 use Rattle.conjugacy.specs.Decision.{part-ring, rotated?, parts-joined?}
 use Rattle.conjugacy.specs.LeadIn.{part-lead, parts-lead}
-use Rattle.conjugacy.specs.LeadInLaws.{both, Apical, apical-part, part-lead-conj, parts-length, part-lead-length}
+use Rattle.conjugacy.specs.LeadInLaws.{Apical, apical-part, part-lead-conj, parts-length, part-lead-length}
 use Rattle.conjugacy.specs.LeadInLaws.{part-lead-all}
 
 module _ (Γ : Alphabet) where
@@ -128,7 +129,7 @@ module _ (Γ : Alphabet) where
         let g : Within ms (apexes Γ x) = λ k j. f k (List·Memᴰ·tail j) in
         let u = part-lead Γ m (part Γ m x) (part Γ m y) in
         let v = parts-lead Γ ms x y in
-        let (s, r) = both (rotated? Γ (part-ring Γ m x) (part-ring Γ m y)) (parts-joined? Γ ms x y) t in
+        let (s, r) = and-both (rotated? Γ (part-ring Γ m x) (part-ring Γ m y)) (parts-joined? Γ ms x y) t in
         let c : conj Γ u (share Γ lab m x) ≈ share Γ lab m y =
         rw (← part-second m, ← part-share Γ m x) (part-lead-conj Γ (apical-part Γ x i) (apical-second i) s) in
         product-join u v (share Γ lab m x) (shares Γ lab ms x) c (parts-lead-conj ms (o .1) g r)
@@ -171,7 +172,7 @@ module _ (Γ : Alphabet) where
         let u = part-lead Γ m (part Γ m x) (part Γ m y) in
         let v = parts-lead Γ ms x y in
         let s = shares Γ lab ms x in
-        let (r, k) = both (rotated? Γ (part-ring Γ m x) (part-ring Γ m y)) (parts-joined? Γ ms x y) t in
+        let (r, k) = and-both (rotated? Γ (part-ring Γ m x) (part-ring Γ m y)) (parts-joined? Γ ms x y) t in
         let b : length u + length p ≤ (2 * n) * length p =
         subst (λ (z : Word Γ). length u + length z ≤ (2 * n) * length z) (part-share Γ m x)
         (part-bound n f (g m (List·Memᴰ·head refl)) r) in

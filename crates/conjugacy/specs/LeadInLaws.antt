@@ -3,12 +3,13 @@ use Prim.Native.Nat.{ℕ, suc, _+_, _*_, _-_, _≤_, _<_, max}
 use native.Mathlib.Nat.{add-mul, mul-one, mul-le-mul-left}
 use native.Mathlib.Omega.{arith}
 use mathlib.Core.Path.{_≡_, refl, sym, _∙_, ap, subst}
-use mathlib.Core.Bool.{Bool, true, false, true≢false, _&&_}
+use mathlib.Core.Bool.{true, false, true≢false}
 use mathlib.Core.List.{[], _∷_, _++_}
 use mathlib.Core.Option.{Option, none, some}
 use lib.ListN.{length, take, drop, length-append, length-take, take-append-drop}
 use lib.Dec.{eqb}
 use borrow.Author.Tests.{eq-eqb}
+use Rattle.words.specs.BoolLaws.{and-both}
 use Rattle.words.specs.All.{All, all-append, all-left, all-pick, all-along}
 use Rattle.words.specs.Alphabet.{Alphabet, Word}
 use Rattle.words.specs.Group as Group
@@ -28,10 +29,6 @@ use Rattle.conjugacy.specs.PartLaws.{Connected, part-connected, part-lar
 use Rattle.conjugacy.specs.RoundLaws.{rounded, rounded-length}
 use Rattle.conjugacy.specs.Decision.{found?, settled-ring, rotated?}
 use Rattle.conjugacy.specs.LeadIn.{place, settling, part-lead}
-
-pub both : (a b : Bool) → (a && b) ≡ true → (a ≡ true) × (b ≡ true)
-both true b e = (refl, e)
-both false b e = absurd (true≢false (sym e))
 
 -- more rounds allow more letters
 more-rounds : (l j n g : ℕ) → j ≤ n → 1 ≤ l → g + j ≤ j * l → g + n ≤ n * l
@@ -113,7 +110,7 @@ module _ (Γ : Alphabet) where
 
   pub rotated-found : (r t : Word Γ) → rotated? Γ r t ≡ true → rotation Γ r t ≡ some (place (rotation Γ r t))
   unfolding rotated? place found?
-  rotated-found r t e = go (rotation Γ r t) (both (eqb (length r) (length t)) (found? (rotation Γ r t)) e .1)
+  rotated-found r t e = go (rotation Γ r t) (and-both (eqb (length r) (length t)) (found? (rotation Γ r t)) e .1)
     where
       go : (o : Option ℕ) → found? o ≡ true → o ≡ some (place o)
       go none f = absurd (true≢false (sym f))

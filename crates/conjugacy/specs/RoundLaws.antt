@@ -14,7 +14,7 @@ use Rattle.words.specs.TraceLaws.{~-sym, ~-length}
 use Rattle.conjugacy.specs.Part.{commands}
 use Rattle.conjugacy.specs.Settle.{split, settled, Split, stop, up, low, Rounded, quiet, round}
 use Rattle.conjugacy.specs.SettleLaws.{split-~, split-splits, split-unique, split-free, split-apart}
-use Rattle.conjugacy.specs.SettleLaws.{rounded-settled}
+use Rattle.conjugacy.specs.SettleLaws.{split-upper, rounded-settled}
 use Rattle.conjugacy.specs.CommandLaws.{Occurs, now, later, occurs-nil, occurs-left, occurs-right, occurs-split}
 use Rattle.conjugacy.specs.CommandLaws.{occurs-along, occurs-swap, occurs?, occurs-apart, occurs-length}
 use Rattle.conjugacy.specs.CommandLaws.{all-occurs, Covers, covers-shorter}
@@ -80,12 +80,6 @@ module _ (Γ : Alphabet) (m : ℕ) where
   abbrev _~_ : Word Γ → Word Γ → Type 0
   _~_ = Trace._~_ Γ
 
-  -- the second half, split again, is raised whole
-  pub split-again : {R : List ℕ} {w p q : Word Γ} → Split Γ m R w p q → Split Γ m R q [] q
-  split-again stop = stop
-  split-again (up h s) = up h (split-again s)
-  split-again (low h s) = split-again s
-
   -- what stays low behind a word that is raised whole
   split-behind : {R : List ℕ} (q : Word Γ) {t p x y : Word Γ} → Split Γ m R q [] t → Split Γ m R (q ++ p) x y
       → Covers Γ p x × Independent Γ x q
@@ -117,7 +111,7 @@ module _ (Γ : Alphabet) (m : ℕ) where
       → {i : ℕ} → Occurs Γ i p → length (commands Γ x) < length (commands Γ p)
   fewer {w} {p} {q} {x} {y} h a s t {i} o =
       let (k, l, ok, ol, c) = connected-cut Γ w p q h (split-~ Γ m s) i m o (apex-behind s a) (split-apex s) in
-      let (f, g) = split-behind q (split-again s) t in
+      let (f, g) = split-behind q (split-upper Γ m s) t in
       covers-shorter Γ x p f k ok (λ u. true≢false (sym c ∙ g k l u ol))
 
   -- what a round keeps

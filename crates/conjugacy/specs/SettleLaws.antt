@@ -8,6 +8,7 @@ use mathlib.Core.Logic.{_⊎_, inl, inr}
 use mathlib.Core.List.{List, [], _∷_, _++_}
 use lib.Dec.{eqb}
 use borrow.Author.Tests.{eqb-true, eqb-false}
+use Rattle.words.specs.BoolLaws.{or-either, or-neither}
 use Rattle.words.specs.Alphabet.{Alphabet, Word}
 use Rattle.words.specs.All.{All, all-map}
 use Rattle.words.specs.Trace as Trace
@@ -30,14 +31,6 @@ or-swap true true c = refl
 or-swap true false c = refl
 or-swap false true c = refl
 or-swap false false c = refl
-
-pub or-false : (a b : Bool) → (a || b) ≡ false → (a ≡ false) × (b ≡ false)
-or-false true b e = absurd (true≢false e)
-or-false false b e = (refl, e)
-
-pub or-true : (a b : Bool) → (a || b) ≡ true → (a ≡ true) ⊎ (b ≡ true)
-or-true true b e = inl refl
-or-true false b e = inr e
 
 module _ (Γ : Alphabet) (m : ℕ) where
   open Alphabet Γ using (Letter, cmd, conf)
@@ -75,7 +68,7 @@ module _ (Γ : Alphabet) (m : ℕ) where
 
   pub hit-less : (k : ℕ) (R : List ℕ) (b : Letter) → hit Γ m (k ∷ R) b ≡ false
       → (conf (cmd b) k ≡ false) × (hit Γ m R b ≡ false)
-  hit-less k R b h = or-false (conf (cmd b) k) (hit Γ m R b) (sym (hit-cons k R b) ∙ h)
+  hit-less k R b h = or-neither (conf (cmd b) k) (hit Γ m R b) (sym (hit-cons k R b) ∙ h)
 
   pub hit-swap : (j k : ℕ) (R : List ℕ) (b : Letter) → hit Γ m (j ∷ k ∷ R) b ≡ hit Γ m (k ∷ j ∷ R) b
   hit-swap j k R b =
@@ -86,11 +79,11 @@ module _ (Γ : Alphabet) (m : ℕ) where
 
   pub hit-apex : (R : List ℕ) (b : Letter) → hit Γ m R b ≡ false → ¬ (cmd b ≡ m)
   unfolding hit
-  hit-apex R b h e = eqb-false (cmd b) m (or-false (eqb (cmd b) m) (meets Γ (cmd b) R) h .0) e
+  hit-apex R b h e = eqb-false (cmd b) m (or-neither (eqb (cmd b) m) (meets Γ (cmd b) R) h .0) e
 
   pub hit-nil : (b : Letter) → hit Γ m [] b ≡ true → cmd b ≡ m
   unfolding hit meets
-  hit-nil b h = go (or-true (eqb (cmd b) m) false h)
+  hit-nil b h = go (or-either (eqb (cmd b) m) false h)
     where
       go : (eqb (cmd b) m ≡ true) ⊎ (false ≡ true) → cmd b ≡ m
       go (inl e) = eqb-true (cmd b) m e

@@ -2,10 +2,10 @@
 -- cores, and from any words that lead to those.
 use Prim.Native.Nat.{_+_}
 use native.Mathlib.Omega.{arith}
-use mathlib.Core.Path.{_≡_, refl, sym, _∙_}
-use mathlib.Core.Bool.{Bool, true, false}
+use mathlib.Core.Path.{_≡_, _∙_}
 use mathlib.Core.List.{[], _++_}
 use lib.ListN.{length, length-append}
+use Rattle.words.specs.BoolLaws.{true-same}
 use Rattle.words.specs.All.{All, all-append}
 use Rattle.words.specs.Alphabet.{Alphabet, Word}
 use Rattle.words.specs.Trace as Trace
@@ -23,11 +23,6 @@ use Rattle.conjugacy.specs.DecisionLaws.{conjugate-joined, lead-in-conj}
 use Rattle.conjugacy.specs.LeadIn.{parts-lead, lead-in}
 use Rattle.conjugacy.specs.LeadInLaws.{all-undo}
 
-true-both : (s t : Bool) → (s ≡ true → t ≡ true) → (t ≡ true → s ≡ true) → s ≡ t
-true-both true t f g = sym (f refl)
-true-both false true f g = g refl
-true-both false false f g = refl
-
 module _ (Γ : Alphabet) where
   open Alphabet Γ using (Letter, inv, cmd)
 
@@ -40,7 +35,7 @@ module _ (Γ : Alphabet) where
 
   -- the verdict is the same on words that swaps lead to from the cores
   pub cores-verdict : (v w x y : Word Γ) → x ~ core Γ v → y ~ core Γ w → cores-joined? Γ x y ≡ joined? Γ v w
-  cores-verdict v w x y d e = true-both (cores-joined? Γ x y) (joined? Γ v w)
+  cores-verdict v w x y d e = true-same (cores-joined? Γ x y) (joined? Γ v w)
       (λ t. conjugate-joined Γ _ v w (cores-conjugate Γ (parts-lead Γ (apexes Γ x) x y) v w
       (then (≈-conj Γ (parts-lead Γ (apexes Γ x) x y) (back (~→≈ Γ d))) (then (cores-lead Γ x y t) (~→≈ Γ e)))))
       (λ t. turns-joined Γ (also (same d)

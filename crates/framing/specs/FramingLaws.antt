@@ -11,6 +11,7 @@ use lib.Seq.{length-take-le, drop-length, drop-cons, drop-drop}
 use lib.Seq.{take-append-seam, drop-append-seam, getD-take, getD-drop}
 use lib.Dec.{leb, eqb}
 use borrow.Author.Tests.{le-leb, lt-leb, leb-true, eq-eqb, ne-eqb, eqb-true}
+use Rattle.words.specs.BoolLaws.{and-both}
 use Rattle.framing.specs.declared.Frame.the-variants.{Badly, Well}
 use Rattle.framing.specs.declared.Places.{Places}
 use Rattle.framing.specs.Framing.{
@@ -114,15 +115,11 @@ module _ (s : List ℕ) (i : ℕ) where
 
 -- Well framed, by computing and by lists
 
-and-left : (b c : Bool) → (b && c) ≡ true → (b ≡ true) × (c ≡ true)
-and-left true c e = (refl, e)
-and-left false c e = absurd (let z : _≡_ {A = ℕ} 0 1 = cc in omega arith)
-
 -- a well framed input ends where its second plan does
 pub well-ends : (s : List ℕ) → wellFramed s ≡ true → planEnd s (secondPlace s) ≡ length s
 well-ends s t =
     eqb-true (planEnd s (secondPlace s)) (length s)
-    (and-left (leb (length s) 4096) (eqb (planEnd s (secondPlace s)) (length s)) t .1)
+    (and-both (leb (length s) 4096) (eqb (planEnd s (secondPlace s)) (length s)) t .1)
 
 pub framed-parts : (s : List ℕ) → wellFramed s ≡ true → Framed s (catalogueOf s) (plan1Of s) (plan2Of s)
 framed-parts s t = record {
@@ -144,7 +141,7 @@ framed-parts s t = record {
 }
   where
     tests : (leb (length s) 4096 ≡ true) × (eqb (planEnd s (secondPlace s)) (length s) ≡ true)
-    tests = and-left (leb (length s) 4096) (eqb (planEnd s (secondPlace s)) (length s)) t
+    tests = and-both (leb (length s) 4096) (eqb (planEnd s (secondPlace s)) (length s)) t
 
     end : planEnd s (secondPlace s) ≡ length s
     end = well-ends s t

@@ -1,25 +1,20 @@
 -- One command: where it occurs and is its own label it is an apex, and its part can be joined.
 use Prim.Native.Nat.{ℕ, _+_, _*_, _≤_, _<_}
-use native.Mathlib.Omega.{arith}
 use mathlib.Core.Path.{_≡_, sym, _∙_, ap, subst, subst₂}
 use mathlib.Core.List.{List, [], _∷_, append-nil}
 use lib.ListN.{length, getD}
 use lib.Dec.{eqb}
 use borrow.Author.Tests.{eq-eqb}
+use Rattle.parts.specs.FlagsLaws.{flag-set}
 use Rattle.plan.specs.Letters.{alphabet}
 use Rattle.conjugacy.specs.AscendingLaws.{_∈_, chosen-in}
 use Rattle.conjugacy.specs.Part.{commands, label, apexes, part, share}
 use Rattle.conjugacy.specs.PartLaws.{shares, part-share}
-use Rattle.parts.specs.Flags.{Flag, set, clear}
 use Rattle.leading.specs.declared.Outcome.{Outcome}
 use Rattle.leading.specs.Lead.{Partable, Led, Leads}
 use Rattle.pairing.specs.Pair.{apexAt, partsOf, Placeable}
 use Rattle.pairing.specs.ApexLaws.{apex-absent, apex-other, apex-own}
 use Rattle.pairing.specs.SofarLaws.{led-nothing}
-
-flag-set : {P : Type 0} {n : ℕ} → Flag P n → n ≡ 1 → P
-flag-set (set p) e = p
-flag-set (clear q) e = absurd (omega arith)
 
 module _ {c : List ℕ} {conflicts : List (List ℕ)} {x y fs labels : List ℕ} {k rounds : ℕ}
     {row : List ℕ} {at : ℕ} (h : Placeable c conflicts x y fs labels k rounds row at) where

@@ -7,6 +7,7 @@ use mathlib.Core.Bool.{true, false}
 use mathlib.Core.List.{List, [], _∷_, _++_, append-assoc, append-nil, Memᴰ·append-left}
 use mathlib.Core.List.{List·Memᴰ·head, List·Memᴰ·tail}
 use lib.ListN.{length, take, length-append}
+use Rattle.words.specs.BoolLaws.{and-both}
 use Rattle.words.specs.All.{all-map}
 use Rattle.words.specs.TraceLaws.{~-length}
 use Rattle.catalogue.specs.Catalogue as Catalogue
@@ -18,7 +19,7 @@ use Rattle.conjugacy.specs.Part.{commands, label, apexes, part, share}
 use Rattle.conjugacy.specs.PartLaws.{shares, part-share, apexes-same, apexes-~}
 use Rattle.conjugacy.specs.Decision.{part-ring, rotated?, parts-joined?}
 use Rattle.conjugacy.specs.LeadIn.{parts-lead}
-use Rattle.conjugacy.specs.LeadInLaws.{both, apical-part, parts-length}
+use Rattle.conjugacy.specs.LeadInLaws.{apical-part, parts-length}
 use Rattle.conjugacy.specs.JoinLaws.{parts-lead-length}
 use Rattle.leading.specs.declared.Outcome.{Outcome}
 use Rattle.leading.specs.declared.Outcome.the-variants.{Joined, Apart, Unsettled}
@@ -69,7 +70,7 @@ unfolding shares parts-joined? part-ring
 parts-of-joined c x y same [] g t = refl
 parts-of-joined c x y same (m ∷ ms) g t =
     let Γ = alphabet c in
-    let (r, s) = both (rotated? Γ (part-ring Γ m x) (part-ring Γ m y)) (parts-joined? Γ ms x y) t in
+    let (r, s) = and-both (rotated? Γ (part-ring Γ m x) (part-ring Γ m y)) (parts-joined? Γ ms x y) t in
     let i = g m (List·Memᴰ·head refl) in
     let j = subst (λ (ks : List ℕ). m ∈ ks) (apexes-same Γ x y same) i in
     let e : length (part Γ m x) ≡ length (part Γ m y) = parts-length Γ (apical-part Γ x i) (apical-part Γ y j) r in

@@ -9,11 +9,6 @@ use borrow.Author.Tests.{leb-true, leb-false, le-leb, lt-leb}
 use Rattle.plan.specs.Plan.{within}
 use Rattle.plan.specs.Byte.{commandOf, undone}
 
-pub true-same : (p q : Bool) → (p ≡ true → q ≡ true) → (q ≡ true → p ≡ true) → p ≡ q
-true-same true q f g = sym (f refl)
-true-same false true f g = g refl
-true-same false false f g = refl
-
 pub within-in : (low high b : ℕ) → low ≤ b → b ≤ high → within low high b ≡ true
 within-in low high b l h = rw (le-leb low b l, le-leb b high h)
 

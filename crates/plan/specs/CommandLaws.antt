@@ -1,29 +1,16 @@
 -- The bytes that are commands or undos: how they stand to N, to fillers, to their undo and to their command.
 use Prim.Native.Nat.{ℕ, _+_, _-_, _≤_, _<_}
-use mathlib.Core.Path.{_≡_, refl, sym, _∙_, ap}
-use mathlib.Core.Bool.{Bool, true, false, _||_, or-true}
+use mathlib.Core.Path.{_≡_, sym, _∙_, ap}
+use mathlib.Core.Bool.{true, false, or-true}
 use mathlib.Core.Logic.{_⊎_, inl, inr}
 use native.Mathlib.Omega.{arith}
 use native.Mathlib.Nat.{mod-eq-of-lt, add-mod-right}
 use lib.Dec.{eqb}
 use borrow.Author.Tests.{ne-eqb}
+use Rattle.words.specs.BoolLaws.{true-same, or-either}
 use Rattle.plan.specs.Plan.{within, isCommand, passes}
 use Rattle.plan.specs.Byte.{commandOf, undone}
-use Rattle.plan.specs.ByteLaws.{
-  true-same,
-  undone-undone,
-  Kind,
-  does,
-  undoes,
-  neither,
-  kind,
-  within-in,
-  within-true,
-}
-
-or-cases : (p q : Bool) → (p || q) ≡ true → (p ≡ true) ⊎ (q ≡ true)
-or-cases true q e = inl refl
-or-cases false q e = inr e
+use Rattle.plan.specs.ByteLaws.{undone-undone, Kind, does, undoes, neither, kind, within-in, within-true}
 
 -- a command or undo: 1 to N, or 129 to 128 + N
 pub data Said (n b : ℕ) : Type 0 where
@@ -32,7 +19,7 @@ pub data Said (n b : ℕ) : Type 0 where
 
 pub said : (n b : ℕ) → isCommand n b ≡ true → Said n b
 unfolding isCommand
-said n b e = go (or-cases (within 1 n b) (within 129 (128 + n) b) e)
+said n b e = go (or-either (within 1 n b) (within 129 (128 + n) b) e)
   where
     go : (within 1 n b ≡ true) ⊎ (within 129 (128 + n) b ≡ true) → Said n b
     go (inl h) = let (l, k) = within-true 1 n b h in done l k
@@ -57,7 +44,7 @@ command-passes n b e = rw e (or-true (eqb b 0))
 -- what passes is a filler, or a command or undo
 pub passes-cases : (n b : ℕ) → passes n b ≡ true → (eqb b 0 ≡ true) ⊎ (isCommand n b ≡ true)
 unfolding passes
-passes-cases n b e = or-cases (eqb b 0) (isCommand n b) e
+passes-cases n b e = or-either (eqb b 0) (isCommand n b) e
 
 pub passes-command : (n b : ℕ) → passes n b ≡ true → eqb b 0 ≡ false → isCommand n b ≡ true
 unfolding passes

@@ -52,7 +52,7 @@ module _ (n b : ℕ) (m : n < 128) where
             let e : b % 128 ≡ b - 128 = fold-high b (omega arith) l in
             passes-high n b (omega arith) (omega arith) ∙ le-leb (b - 128) n (omega arith)
 
-or-parts : (a b : ℕ) → bitOr a b ≡ 0 → (a ≡ 0) × (b ≡ 0)
+pub or-parts : (a b : ℕ) → bitOr a b ≡ 0 → (a ≡ 0) × (b ≡ 0)
 or-parts a b e = (
   omega (arith, or-add-and a b, and-le-l a b, and-le-r a b),
   omega (arith, or-add-and a b, and-le-l a b, and-le-r a b),

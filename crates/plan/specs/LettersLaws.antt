@@ -7,11 +7,12 @@ use native.Mathlib.Omega.{arith}
 use lib.ListN.{length}
 use lib.Dec.{eqb}
 use borrow.Author.Tests.{eqb-true, eq-eqb}
+use Rattle.words.specs.BoolLaws.{true-same}
 use Rattle.words.specs.All.{All, all-map}
 use Rattle.words.specs.Group as Group
 use Rattle.plan.specs.Plan.{isCommand, Passing}
 use Rattle.plan.specs.Byte.{undone, commandOf}
-use Rattle.plan.specs.ByteLaws.{true-same, undone-undone, undone-zero}
+use Rattle.plan.specs.ByteLaws.{undone-undone, undone-zero}
 use Rattle.plan.specs.CommandLaws.{command-nonzero, command-passes, passes-command, command-range}
 use Rattle.plan.specs.Letters.{letters, letters-step, alphabet, undoneBefore}
 

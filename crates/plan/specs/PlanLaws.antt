@@ -9,21 +9,12 @@ use native.Mathlib.Omega.{arith}
 use lib.ListN.{length, getD}
 use lib.Dec.{leb, ltb, eqb}
 use borrow.Author.Tests.{leb-true, le-leb, lt-ltb, le-ltb, eq-eqb, ne-eqb, ltb-false, not-false}
+use Rattle.words.specs.BoolLaws.{true-same}
 use Rattle.refusal.specs.Search.{firstOf, lineAt}
 use Rattle.refusal.specs.SearchLaws.{search-none}
 use Rattle.refusal.specs.Line.{line, holds, Answer, refused, given, firstLine, orElse}
 use Rattle.plan.specs.Plan.{isCommand, passes, firstBad, planLines, Passing}
-use Rattle.plan.specs.ByteLaws.{
-  true-same,
-  Side,
-  under,
-  amid,
-  over,
-  side,
-  within-in,
-  within-under,
-  within-over,
-}
+use Rattle.plan.specs.ByteLaws.{Side, under, amid, over, side, within-in, within-under, within-over}
 
 -- 0 to N pass
 pub passes-low : (n b : ℕ) → b ≤ n → passes n b ≡ true

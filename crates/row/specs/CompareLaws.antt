@@ -6,17 +6,12 @@ use mathlib.Core.List.{List}
 use mathlib.Core.Logic.{_↔_}
 use native.Mathlib.Omega.{arith}
 use native.Mathlib.Numerals.{add-one}
-use lib.Bits.{bitOr, bitXor, or-add-and, xor-add-and, and-le-l, and-le-r, xor-self}
+use lib.Bits.{bitOr, bitXor, xor-add-and, and-le-l, and-le-r, xor-self}
 use lib.Dec.{eqb}
 use lib.ListN.{length, getD, take}
 use lib.Seq.{take-suc, take-take, getD-take}
 use borrow.Author.Tests.{eqb-true, eq-eqb}
-
-or-parts : (a b : ℕ) → bitOr a b ≡ 0 → (a ≡ 0) × (b ≡ 0)
-or-parts a b e = (
-  omega (arith, or-add-and a b, and-le-l a b, and-le-r a b),
-  omega (arith, or-add-and a b, and-le-l a b, and-le-r a b),
-)
+use Rattle.plan.specs.FaultLaws.{or-parts}
 
 xor-same : (a b : ℕ) → bitXor a b ≡ 0 → a ≡ b
 xor-same a b e = omega (arith, xor-add-and a b, and-le-l a b, and-le-r a b)
@@ -28,7 +23,7 @@ pub record Compared (v w : List ℕ) (differ j : ℕ) : Type 0 where
 pub compared-start : (v w : List ℕ) → Compared v w 0 0
 compared-start v w = record { same = λ e. refl; none = λ e. refl }
 
--- one bead more agrees if the beads before it do and it does
+-- one byte more agrees if the bytes before it do and it does
 take-more : (v w : List ℕ) (j : ℕ) → j < length v → j < length w → take j v ≡ take j w → getD v j 0 ≡ getD w j 0
     → take (j + 1) v ≡ take (j + 1) w
 take-more v w j h k e f = rw (add-one, take-suc v j 0 h, take-suc w j 0 k, e, f)

@@ -1,5 +1,6 @@
 -- Words over an alphabet with undos and conflicts: swaps, the group, reduction, the normal form.
 -- A definition file holds what a reader must believe; its laws stand in the file of the same name with Laws.
+pub mod BoolLaws
 pub mod Alphabet
 pub mod All
 pub mod Trace
