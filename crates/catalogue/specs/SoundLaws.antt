@@ -15,7 +15,8 @@ use Rattle.refusal.specs.SearchLaws.{search-none, passed-line, refused-line}
 use Rattle.refusal.specs.declared.Refusal.{Refusal}
 use Rattle.refusal.specs.declared.Checked.{Checked}
 use Rattle.refusal.specs.declared.Checked.the-variants.{Passed, Refused}
-use Rattle.catalogue.specs.Catalogue.{commands, records, head, headPlace, command, next, nextPlace, commandPlace, orIf, countLine, headLine, nextLine, recordLine}
+use Rattle.catalogue.specs.Catalogue.{commands, records, head, headPlace, command, next, nextPlace, commandPlace}
+use Rattle.catalogue.specs.Catalogue.{orIf, countLine, headLine, nextLine, recordLine}
 use Rattle.catalogue.specs.Sound.{frameLine, Decides, Framed, Sound}
 
 pub some-none : {A : Type 0} {a : A} → some a ≡ none → ⊥

@@ -8,9 +8,9 @@ use mathlib.Core.Logic.{_↔_}
 use lib.ListN.{length, take}
 use Rattle.catalogue.specs.Catalogue.{commands}
 use Rattle.catalogue.specs.Conflict.{Conflicts}
+use Rattle.plan.specs.Area.{StartsWith}
 use Rattle.plan.specs.Plan.{Passing}
 use Rattle.plan.specs.Letters.{normalForm}
-use Rattle.longform.specs.Form.{Written}
 use Rattle.checking.specs.declared.Both.{Both}
 
 -- the row begins with both words, up to `end`
@@ -31,7 +31,7 @@ pub record Factors (c : List ℕ) (conflicts : List (List ℕ)) (first second ar
 -- for every such catalogue the area now begins with the normal form of the product, r letters
 abbrev pub Multiplied : List (List ℕ) → List ℕ → List ℕ → List ℕ → List ℕ → ℕ → Type 0
 Multiplied conflicts first second before after r =
-    (c : List ℕ) → Factors c conflicts first second before → Written c (first ++ second) before after r
+    (c : List ℕ) → Factors c conflicts first second before → StartsWith (normalForm c (first ++ second)) before after r
 
 -- plans v and w and a lead-in u that have passed lines 7 and 8, and areas with room for v·u and u·w
 pub record Checkable (c : List ℕ) (conflicts : List (List ℕ)) (v w u area0 area1 : List ℕ) : Type 0 where
@@ -49,5 +49,5 @@ pub record Checkable (c : List ℕ) (conflicts : List (List ℕ)) (v w u area0 a
 -- the areas now begin with the normal forms of v·u and u·w, and `same` tells whether these are equal
 pub record CheckedIn (c v w u before0 after0 before1 after1 : List ℕ) (r : Both) : Type 0 where
   pub same : (r .same ≡ true) ↔ (normalForm c (v ++ u) ≡ normalForm c (u ++ w))
-  pub written0 : Written c (v ++ u) before0 after0 (r .vu)
-  pub written1 : Written c (u ++ w) before1 after1 (r .uw)
+  pub written0 : StartsWith (normalForm c (v ++ u)) before0 after0 (r .vu)
+  pub written1 : StartsWith (normalForm c (u ++ w)) before1 after1 (r .uw)

@@ -1,17 +1,17 @@
 -- Laws of the lead-in check: two words appended one behind the other are their product, and what the areas begin with.
 use Prim.Native.Nat.{ℕ, _+_, _≤_}
-use mathlib.Core.Path.{_≡_, sym, _∙_, ap}
+use mathlib.Core.Path.{_≡_, _∙_, ap}
 use mathlib.Core.Bool.{Bool, true}
 use mathlib.Core.List.{List, _++_}
 use mathlib.Core.Logic.{_↔_}
 use native.Mathlib.Omega.{arith}
-use lib.ListN.{length, take, drop, length-append}
-use lib.Seq.{take-at}
+use lib.ListN.{length, take, length-append}
 use Rattle.words.specs.All.{all-append}
+use Rattle.plan.specs.Area.{StartsWith}
+use Rattle.plan.specs.AreaLaws.{starts-take}
 use Rattle.plan.specs.Letters.{normalForm}
 use Rattle.plan.specs.LettersLaws.{letters-length}
 use Rattle.reduction.specs.Reducing.{Given}
-use Rattle.longform.specs.Form.{Written}
 use Rattle.wordform.specs.Forming.{Formable}
 use Rattle.row.specs.Row.{Appended}
 use Rattle.row.specs.RowLaws.{appended-length, appended-take}
@@ -51,17 +51,10 @@ module _ {first second row : List ℕ} {end : ℕ} (j : Joined first second row 
     ));
   }
 
-pub joined-written : {first second row c before after : List ℕ} {end r : ℕ} → Joined first second row end
-    → Written c (take end row) before after r → Written c (first ++ second) before after r
-joined-written j w = rw (j .begins) at w
-
--- an area that begins with a normal form
-module _ {c word before after : List ℕ} {r : ℕ} (w : Written c word before after r) where
-  pub written-fits : r ≤ length after
-  written-fits = omega (arith, w .count, ap length (w .bytes), length-append (normalForm c word) (drop r before))
-
-  pub written-take : take r after ≡ normalForm c word
-  written-take = ap (take r) (w .bytes) ∙ take-at (normalForm c word) (drop r before) r (sym (w .count))
+pub joined-written : (c : List ℕ) {first second row before after : List ℕ} {end r : ℕ} → Joined first second row end
+    → StartsWith (normalForm c (take end row)) before after r
+    → StartsWith (normalForm c (first ++ second)) before after r
+joined-written c j w = rw (j .begins) at w
 
 module _ {c : List ℕ} {conflicts : List (List ℕ)} {v w u before0 before1 : List ℕ}
     (k : Checkable c conflicts v w u before0 before1) where
@@ -87,11 +80,11 @@ module _ {c : List ℕ} {conflicts : List (List ℕ)} {v w u before0 before1 : L
 
 -- the starts of the areas are the same exactly if the normal forms are
 pub checked-in : {c v w u before0 after0 before1 after1 : List ℕ} {same : Bool} {vu uw : ℕ}
-    → Written c (v ++ u) before0 after0 vu → Written c (u ++ w) before1 after1 uw
+    → StartsWith (normalForm c (v ++ u)) before0 after0 vu → StartsWith (normalForm c (u ++ w)) before1 after1 uw
     → (same ≡ true) ↔ (take vu after0 ≡ take uw after1)
     → CheckedIn c v w u before0 after0 before1 after1 (record { same = same; vu = vu; uw = uw })
 checked-in x y s = record {
-  same = rw (written-take x, written-take y) at s;
+  same = rw (starts-take x, starts-take y) at s;
   written0 = x;
   written1 = y;
 }

@@ -7,10 +7,10 @@ use lib.ListN.{length, take, drop}
 use Rattle.words.specs.Trace.{_~_}
 use Rattle.words.specs.Reduce.{reduce}
 use Rattle.conjugacy.specs.Core as Core
+use Rattle.plan.specs.Area.{StartsWith}
 use Rattle.plan.specs.Letters.{letters, alphabet, normalForm}
 use Rattle.reading.specs.Reading.{Left}
 use Rattle.peeling.specs.Peeling.{Peeled}
-use Rattle.engine.specs.Passed.{Starts}
 use Rattle.calls.specs.Calls.{coreForm}
 
 -- of a plan: the normal form, or that of its core
@@ -31,7 +31,7 @@ pub data Remains (c : List ℕ) (rows : List (List ℕ)) (x lead heights at : Li
 
 -- core now starts with the core in normal form, n letters, and lead with the m letters taken off in front, up to swaps
 pub record CoreOf (c plan core lead core′ lead′ : List ℕ) (n m : ℕ) : Type 0 where
-  pub form : Starts (coreForm c plan) core core′ n
+  pub form : StartsWith (coreForm c plan) core core′ n
   pub off : _~_ (alphabet c) (take m lead′) (Core.lead (alphabet c) (letters plan))
   pub count : 2 * m + n ≡ length (reduce (alphabet c) (letters plan))
   pub fits : m ≤ length lead
@@ -41,5 +41,5 @@ pub record CoreOf (c plan core lead core′ lead′ : List ℕ) (n m : ℕ) : Ty
 pub data FormOf (c plan area lead : List ℕ) : Bool → List ℕ → List ℕ → ℕ → ℕ → Type 0 where
   core : {area′ lead′ : List ℕ} {n m : ℕ} → CoreOf c plan area lead area′ lead′ n m
       → FormOf c plan area lead true area′ lead′ n m
-  normal : {area′ : List ℕ} {n : ℕ} → Starts (normalForm c plan) area area′ n
+  normal : {area′ : List ℕ} {n : ℕ} → StartsWith (normalForm c plan) area area′ n
       → FormOf c plan area lead false area′ lead n 0

@@ -1,24 +1,25 @@
 -- From a piling to the form that is wanted.
 use Prim.Native.Nat.{ℕ, _≤_, _*_}
-use mathlib.Core.Path.{_≡_, refl, sym, _∙_, ap, ap₂, subst}
+use mathlib.Core.Path.{_≡_, refl, sym, subst}
 use mathlib.Core.Bool.{Bool, true}
-use mathlib.Core.List.{List, _++_, reverse}
+use mathlib.Core.List.{List, reverse}
 use native.Mathlib.Omega.{arith}
-use lib.ListN.{length, drop, length-reverse}
+use lib.ListN.{length, length-reverse}
 use Rattle.words.specs.ReduceLaws.{reduce-reduced, reduced-reverse, reduced-~, reduce-≈}
 use Rattle.words.specs.Group.{Reduced, then, back}
 use Rattle.words.specs.Reduce.{reduce}
 use Rattle.words.specs.TraceLaws.{~-length}
 use Rattle.words.specs.Normal.{lex}
 use Rattle.words.specs.NormalLaws.{lex-~, lex-sorts, sorts-nf}
+use Rattle.plan.specs.Area.{StartsWith, ReadOff}
 use Rattle.plan.specs.Letters.{letters, alphabet, normalForm}
 use Rattle.beads.specs.Blank.{blankHeights}
 use Rattle.piling.specs.Piling.{Piled}
 use Rattle.piling.specs.Pile.{reduced}
-use Rattle.reading.specs.Reading.{Readable, ReadOff}
+use Rattle.reading.specs.Reading.{Readable}
 use Rattle.peeling.specs.Peeling.{Peelable, Peeled}
 use Rattle.peeling.specs.PeeledLaws.{piled-peelable, peeled-core, peeled-normal}
-use Rattle.engine.specs.Passed.{Passed, Starts}
+use Rattle.engine.specs.Passed.{Passed}
 use Rattle.engine.specs.EngineLaws.{passed-lettered, reduced-length, reduced-word}
 use Rattle.calls.specs.Calls.{coreForm}
 use Rattle.coring.specs.Coring.{form, Remains, peeled, whole, CoreOf, FormOf, core, normal}
@@ -47,13 +48,6 @@ module _ {c : List ℕ} {conflicts : List (List ℕ)} {plan : List ℕ} (p : Pas
         fits = omega (arith, length-reverse (reduced c plan), reduced-length c plan);
       }
 
--- read off, z is these bytes
-read-starts : {c z bytes area area′ : List ℕ} {n : ℕ} → lex (alphabet c) (length z) z ≡ bytes → ReadOff c z area area′ n
-    → Starts bytes area area′ n
-read-starts {area = area} e o =
-    let k = o .count ∙ ap length e in
-    record { count = k; area = o .bytes ∙ ap₂ (λ x j. x ++ drop j area) e k }
-
 module _ (c plan : List ℕ) where
   -- the word piled up is reduced
   reverse-reduced : Reduced (alphabet c) (reverse (reduced c plan))
@@ -78,7 +72,7 @@ module _ {c plan : List ℕ} {rows : List (List ℕ)} {lead heights at lead′ :
       (reduce-reduced (alphabet c) (letters plan))
       (then (reduced-word c plan) (back (reduce-≈ (alphabet c) (letters plan)))) in
       record {
-        form = read-starts (peeled-normal q d (letters plan) (reduced-word c plan)) o;
+        form = rw (peeled-normal q d (letters plan) (reduced-word c plan)) at o;
         off = peeled-core q d (letters plan) (reduced-word c plan) .1;
         count =
             omega (arith, q .count, o .count, ~-length (alphabet c) (lex-~ (alphabet c) z), ~-length (alphabet c) s);
@@ -90,12 +84,12 @@ pub formed : {c plan : List ℕ} {rows : List (List ℕ)} {lead heights at : Lis
     {z area area′ : List ℕ} {n : ℕ} → Remains c rows (reverse (reduced c plan)) lead heights at b lead′ m z
     → length plan ≤ 2 * length lead → ReadOff c z area area′ n → FormOf c plan area lead b area′ lead′ n m
 formed (peeled q) l o = core (cored q l o)
-formed {c} {plan} (whole q) l o = normal (read-starts (read-normal c plan) o)
+formed {c} {plan} (whole q) l o = normal (rw (read-normal c plan) at o)
 
 -- for callers: the form that is wanted, and the core
 
 pub form-starts : {c plan area lead area′ lead′ : List ℕ} {n m : ℕ} {b : Bool}
-    → FormOf c plan area lead b area′ lead′ n m → Starts (form b c plan) area area′ n
+    → FormOf c plan area lead b area′ lead′ n m → StartsWith (form b c plan) area area′ n
 form-starts (core d) = d .form
 form-starts (normal s) = s
 

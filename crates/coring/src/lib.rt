@@ -5,7 +5,8 @@ ghost use Prim.Native.Nat.{ℕ, _≤_};
 ghost use mathlib.Core.Path.{_≡_};
 ghost use mathlib.Core.List.{List};
 ghost use lib.ListN.{length};
-ghost use Rattle.engine.specs.Passed.{Passed, Starts};
+ghost use Rattle.plan.specs.Area.{StartsWith};
+ghost use Rattle.engine.specs.Passed.{Passed};
 ghost use Rattle.peeling.specs.Peeling.{Peelable};
 ghost use Rattle.coring.specs.Coring.{form, Room, Remains, FormOf};
 
@@ -76,7 +77,7 @@ fn blank_lead() -> [u8; 512]
 pub fn form(plan: &[u8], conflicts: &[[u16; 24]; 24], area: &mut [u8], cored: bool) -> usize
     requires { ⌜ ((c : List ℕ) × Passed c (now conflicts) (now plan) × (length (now plan) ≤ length (now area))) ⌝ }
     ensures { λ r. ⌜ ((c : List ℕ) → Passed c (now (conflicts .entry)) (now (plan .entry))
-        → Starts (form cored c (now (plan .entry))) (now (area .entry)) (now (area .exit)) r) ⌝ }
+        → StartsWith (form cored c (now (plan .entry))) (now (area .entry)) (now (area .exit)) r) ⌝ }
 {
     let mut lead = blank_lead();
     let formed = form_of(plan, conflicts, area, &mut lead, cored);

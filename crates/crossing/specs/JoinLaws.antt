@@ -4,15 +4,16 @@ use native.Mathlib.Omega.{arith}
 use native.Mathlib.Nat.{mul-le-mul-right, mul-add}
 use mathlib.Core.Path.{_≡_, refl, sym, _∙_, ap, subst, subst₂}
 use mathlib.Core.List.{List, [], _++_, append-assoc}
-use lib.ListN.{length, take, drop, length-take}
+use lib.ListN.{length, take, length-take}
 use Rattle.words.specs.TraceLaws.{~-sym}
 use Rattle.conjugacy.specs.TurnLaws.{round-~}
 use Rattle.conjugacy.specs.CoreLaws.{core-round}
 use Rattle.catalogue.specs.Catalogue.{commands}
+use Rattle.plan.specs.Area.{StartsWith}
+use Rattle.plan.specs.AreaLaws.{starts-area}
 use Rattle.plan.specs.Letters.{letters, alphabet, undoneBefore, normalForm}
 use Rattle.plan.specs.LettersLaws.{letters-length, commands-passing}
 use Rattle.reduction.specs.Reducing.{Given}
-use Rattle.longform.specs.Form.{Written}
 use Rattle.wordform.specs.Forming.{Formable}
 use Rattle.row.specs.Row.{Appended}
 use Rattle.row.specs.RowLaws.{appended-take, appended-length, undone-length}
@@ -26,7 +27,8 @@ use Rattle.engine.specs.Passed.{Passed}
 use Rattle.crossing.specs.VerdictLaws.{through, through-count}
 use Rattle.crossing.specs.Stripped.{Stripped}
 use Rattle.crossing.specs.StrippedLaws.{core-~, off-length, off-commands, no-letters, verdict}
-use Rattle.crossing.specs.StrippedLaws.{through-joined, through-commands, through-room, through-short, through-lead-in}
+use Rattle.crossing.specs.StrippedLaws.{through-joined, through-commands, through-room, through-short}
+use Rattle.crossing.specs.StrippedLaws.{through-lead-in}
 use Rattle.crossing.specs.Join.{Plans, Cores, crossRoom, LeadWord, LeadsWord, Told, joined, apart}
 
 -- a plan's core is cyclically reduced
@@ -161,9 +163,8 @@ module _ {c : List ℕ} {conflicts : List (List ℕ)} {v w : List ℕ} {n : ℕ}
     fits = omega (arith, d .count, word-short, letters-length (take end row));
   }
 
-  pub word-told : {area after : List ℕ} {r : ℕ} → Written c (take end row) area after r
+  pub word-told : {area after : List ℕ} {r : ℕ} → StartsWith (normalForm c (take end row)) area after r
       → Told c v w area (Joined r) after
   word-told {area} {after} {r} o =
-      let u = normalForm c (take end row) in
-      let f : after ≡ u ++ drop (length u) area = o .bytes ∙ ap (λ m. u ++ drop m area) (o .count) in
-      subst₂ (λ m a. Told c v w area (Joined m) a) (sym (o .count)) (sym f) (joined (d .joined) (d .leads))
+      subst₂ (λ m a. Told c v w area (Joined m) a) (sym (o .count)) (sym (starts-area o))
+      (joined (d .joined) (d .leads))

@@ -1,8 +1,7 @@
--- A plan that has passed its checks, and what it means that an area now starts with some bytes.
+-- A plan that has passed its checks.
 use Prim.Native.Nat.{ℕ, _≤_}
-use mathlib.Core.Path.{_≡_}
-use mathlib.Core.List.{List, _++_}
-use lib.ListN.{length, drop}
+use mathlib.Core.List.{List}
+use lib.ListN.{length}
 use Rattle.catalogue.specs.Catalogue.{commands}
 use Rattle.catalogue.specs.Conflict.{Conflicts}
 use Rattle.plan.specs.Plan.{Passing}
@@ -13,8 +12,3 @@ pub record Passed (c : List ℕ) (conflicts : List (List ℕ)) (plan : List ℕ)
   pub table : Conflicts c conflicts
   pub passing : Passing (commands c) plan
   pub short : length plan ≤ 1024
-
--- r bytes were written, and past them the area is as it was
-pub record Starts (bytes before after : List ℕ) (r : ℕ) : Type 0 where
-  pub count : r ≡ length bytes
-  pub area : after ≡ bytes ++ drop (length bytes) before

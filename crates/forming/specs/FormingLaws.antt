@@ -10,7 +10,8 @@ use Rattle.refusal.specs.LineLaws.{first-early, first-late}
 use Rattle.refusal.specs.declared.Refusal.{Refusal}
 use Rattle.refusal.specs.declared.Checked.{Checked}
 use Rattle.refusal.specs.declared.Checked.the-variants.{Refused, Passed}
-use Rattle.engine.specs.Passed.{Starts}
+use Rattle.plan.specs.Area.{StartsWith}
+use Rattle.plan.specs.AreaLaws.{starts-area}
 use Rattle.entry.specs.Entry.{OnePlan, oneLines, SameRefusal}
 use Rattle.entry.specs.EntryLaws.{entered-none, entered-some}
 use Rattle.calls.specs.Calls.{areaLine, normalFormLines}
@@ -36,8 +37,8 @@ module _ {c v : List ℕ} {rows : List (List ℕ)} {r : Checked} (d : OnePlan c 
     pub form-small : {l : Line} → length area < length v → l ≡ line 9 0 0 → WrittenForm f c v area (refused l) area
     form-small h k = refused-by (late ∙ rw (lt-ltb (length area) (length v) h)) (ap refused k)
 
-    pub form-written : {m : ℕ} {after : List ℕ} → length v ≤ length area → Starts (f c v) area after m
+    pub form-written : {m : ℕ} {after : List ℕ} → length v ≤ length area → StartsWith (f c v) area after m
         → WrittenForm f c v area (given m) after
     form-written h s =
         let z : firstLine (normalFormLines c v area) ≡ none = late ∙ rw (le-ltb (length area) (length v) h) in
-        rw z (ap given (s .count), s .area)
+        rw z (ap given (s .count), starts-area s)

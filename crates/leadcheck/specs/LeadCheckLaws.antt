@@ -3,13 +3,14 @@ use Prim.Native.Nat.{ℕ, _+_, _<_, _≤_}
 use mathlib.Core.Path.{_≡_, refl, _∙_, ap}
 use mathlib.Core.List.{List, [], _∷_, _++_}
 use mathlib.Core.Option.{Option, none, some}
-use lib.ListN.{length, drop}
+use lib.ListN.{length}
 use borrow.Author.Tests.{lt-ltb, le-ltb}
 use Rattle.refusal.specs.Line.{Line, line, Answer, refused, given, firstLine}
 use Rattle.refusal.specs.LineLaws.{first-early, first-late}
 use Rattle.refusal.specs.declared.Refusal.{Refusal}
 use Rattle.refusal.specs.declared.Checked.{Checked}
 use Rattle.refusal.specs.declared.Checked.the-variants.{Refused, Passed}
+use Rattle.plan.specs.AreaLaws.{starts-area}
 use Rattle.plan.specs.Letters.{normalForm}
 use Rattle.checking.specs.declared.Both.{Both}
 use Rattle.checking.specs.Checking.{Checkable, CheckedIn}
@@ -84,6 +85,6 @@ module _ {c v w : List ℕ} (u : List ℕ) {rows : List (List ℕ)} {r : Checked
             late ∙ rw (le-ltb (length area0) (length v + length u) h, le-ltb (length area1) (length u + length w) i) in
             rw z (
               j ∙ ap given (λ x. record { yes = s x; vu = k .written0 .count x; uw = k .written1 .count x }),
-              k .written0 .bytes ∙ ap (λ m. normalForm c (v ++ u) ++ drop m area0) (k .written0 .count),
-              k .written1 .bytes ∙ ap (λ m. normalForm c (u ++ w) ++ drop m area1) (k .written1 .count),
+              starts-area (k .written0),
+              starts-area (k .written1),
             )

@@ -6,10 +6,10 @@ use lib.ListN.{length}
 use Rattle.words.specs.Normal.{nf}
 use Rattle.words.specs.Reduce.{reduce}
 use Rattle.words.specs.ReduceLaws.{reduce-length}
+use Rattle.plan.specs.Area.{StartsWith, ReadOff}
 use Rattle.plan.specs.Letters.{letters, alphabet, normalForm}
 use Rattle.reduction.specs.Reducing.{Reducing}
-use Rattle.longform.specs.Form.{Written}
-use Rattle.longform.specs.Reading.{Readable, ReadOff}
+use Rattle.longform.specs.Reading.{Readable}
 
 pub form-readable : {c : List ℕ} {conflicts : List (List ℕ)} {word under link tops blanks area : List ℕ}
     → length (letters word) ≤ length area → Reducing c conflicts word under link tops blanks 0
@@ -20,7 +20,7 @@ form-readable {c} {word = word} l r = record {
   fits = omega (arith, reduce-length (alphabet c) (letters word));
 }
 
-pub form-written : {c word before after : List ℕ} {r : ℕ}
-    → ReadOff c (reduce (alphabet c) (letters word)) before after r → Written c word before after r
+pub form-written : (c word : List ℕ) {before after : List ℕ} {r : ℕ}
+    → ReadOff c (reduce (alphabet c) (letters word)) before after r → StartsWith (normalForm c word) before after r
 unfolding normalForm nf
-form-written o = record { count = o .count; bytes = o .bytes }
+form-written c word o = o

@@ -14,13 +14,14 @@ use Rattle.words.specs.Normal.{lex}
 use Rattle.words.specs.NormalLaws.{Least, lex-pick}
 use Rattle.words.specs.WritingLaws.{take-more, drop-more}
 use Rattle.catalogue.specs.Conflict.{Conflicts}
+use Rattle.plan.specs.Area.{ReadOff}
 use Rattle.plan.specs.Byte.{commandOf}
 use Rattle.plan.specs.Letters.{alphabet}
 use Rattle.plan.specs.Lettered.{Lettered}
 use Rattle.runs.specs.Runs.{Stacks}
 use Rattle.runs.specs.Moves.{Cuttable, Cut}
 use Rattle.runs.specs.StacksLaws.{Lined, stacks-topped, stacks-first, first-stacks, stacks-cuttable, stacks-cut}
-use Rattle.longform.specs.Reading.{FirstReady, Readable, ReadOff}
+use Rattle.longform.specs.Reading.{FirstReady, Readable}
 
 module _ {c word under link tops blanks y : List ℕ} (s : Stacks c word under link tops blanks 0 y) {k : ℕ}
     (f : FirstReady blanks k) where

@@ -1,11 +1,9 @@
 -- Reading the stacks of a long word off.
 use Prim.Native.Nat.{ℕ, _<_, _≤_}
 use mathlib.Core.Path.{_≡_}
-use mathlib.Core.List.{List, _++_}
-use lib.ListN.{length, getD, drop}
-use Rattle.words.specs.Normal.{lex}
+use mathlib.Core.List.{List}
+use lib.ListN.{length, getD}
 use Rattle.catalogue.specs.Conflict.{Conflicts}
-use Rattle.plan.specs.Letters.{alphabet}
 use Rattle.runs.specs.Runs.{Stacks}
 
 -- k is the first index at which no blank is counted, or 24 where there is none
@@ -20,8 +18,3 @@ pub record Readable (c : List ℕ) (conflicts : List (List ℕ)) (word under lin
   pub table : Conflicts c conflicts
   pub stacks : Stacks c word under link tops blanks 0 x
   pub fits : length x ≤ length area
-
--- the area now begins with x in order, r letters, and past them it is as it was
-pub record ReadOff (c x before after : List ℕ) (r : ℕ) : Type 0 where
-  pub count : r ≡ length (lex (alphabet c) (length x) x)
-  pub bytes : after ≡ lex (alphabet c) (length x) x ++ drop r before

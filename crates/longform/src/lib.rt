@@ -4,9 +4,11 @@ use reduction::reduce;
 use runs::cut;
 ghost use Prim.Native.Nat.{ℕ};
 ghost use mathlib.Core.List.{List};
+ghost use Rattle.plan.specs.Area.{StartsWith, ReadOff};
+ghost use Rattle.plan.specs.Letters.{normalForm};
 ghost use Rattle.reduction.specs.Reducing.{Given};
-ghost use Rattle.longform.specs.Form.{Room, Written};
-ghost use Rattle.longform.specs.Reading.{FirstReady, Readable, ReadOff};
+ghost use Rattle.longform.specs.Form.{Room};
+ghost use Rattle.longform.specs.Reading.{FirstReady, Readable};
 
 // The first index at which no blank is counted, or 24 where there is none.
 fn ready(blanks: &[u16; 24]) -> usize
@@ -63,7 +65,7 @@ pub fn normal_form(
     requires { ⌜ ((c : List ℕ) × Given c (now conflicts) (now word)
         × Room (now word) (now under) (now link) (now area)) ⌝ }
     ensures { λ r. ⌜ ((c : List ℕ) → Given c (now (conflicts .entry)) (now (word .entry))
-        → Written c (now (word .entry)) (now (area .entry)) (now (area .exit)) r) ⌝ }
+        → StartsWith (normalForm c (now (word .entry))) (now (area .entry)) (now (area .exit)) r) ⌝ }
 {
     let mut tops = [0; 24];
     let mut blanks = [1; 24];

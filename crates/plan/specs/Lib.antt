@@ -18,3 +18,5 @@ pub mod Join
 pub mod JoinLaws
 pub mod Lettered
 pub mod LetteredLaws
+pub mod Area
+pub mod AreaLaws

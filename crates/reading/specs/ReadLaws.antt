@@ -12,9 +12,10 @@ use Rattle.words.specs.Trace.{First}
 use Rattle.words.specs.TraceLaws.{pick-length}
 use Rattle.catalogue.specs.Conflict.{Conflicts}
 use Rattle.beads.specs.Heights.{Both, Changed}
+use Rattle.plan.specs.Area.{ReadOff}
 use Rattle.plan.specs.Byte.{commandOf}
 use Rattle.plan.specs.Letters.{alphabet}
-use Rattle.reading.specs.Reading.{lowest, Room, Passed, FirstReady, Left, Readable, ReadOff}
+use Rattle.reading.specs.Reading.{lowest, Room, Passed, FirstReady, Left, Readable}
 use Rattle.reading.specs.Starts.{Starts}
 use Rattle.reading.specs.StartsLaws.{start-passed}
 use Rattle.reading.specs.LeftLaws.{left-shows, left-least, left-none, left-fits, left-next}

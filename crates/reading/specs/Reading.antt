@@ -2,11 +2,10 @@
 -- bottom up to the height. And what reading it off yields.
 use Prim.Native.Nat.{ℕ, _+_, _<_, _≤_}
 use mathlib.Core.Path.{_≡_}
-use mathlib.Core.List.{List, [], _++_}
-use lib.ListN.{length, getD, drop}
+use mathlib.Core.List.{List, []}
+use lib.ListN.{length, getD}
 use lib.Seq.{slice}
 use Rattle.words.specs.All.{All}
-use Rattle.words.specs.Normal.{lex}
 use Rattle.words.specs.Stack.{proj}
 use Rattle.catalogue.specs.Conflict.{Conflicts}
 use Rattle.plan.specs.Letters.{alphabet}
@@ -55,8 +54,3 @@ pub record Readable (c : List ℕ) (conflicts rows : List (List ℕ)) (heights a
   pub table : Conflicts c conflicts
   pub left : Left rows heights c at x
   pub fits : length x ≤ length area
-
--- the area now begins with x in order, r letters, and past them it is as it was
-pub record ReadOff (c x before after : List ℕ) (r : ℕ) : Type 0 where
-  pub count : r ≡ length (lex (alphabet c) (length x) x)
-  pub bytes : after ≡ lex (alphabet c) (length x) x ++ drop r before

@@ -3,8 +3,9 @@
 ghost use Prim.Native.Nat.{ℕ, _≤_};
 ghost use mathlib.Core.List.{List};
 ghost use Rattle.catalogue.specs.Conflict.{Conflicts};
+ghost use Rattle.plan.specs.Area.{ReadOff};
 ghost use Rattle.beads.specs.Heights.{Both, Changed};
-ghost use Rattle.reading.specs.Reading.{Room, Passed, FirstReady, Readable, ReadOff};
+ghost use Rattle.reading.specs.Reading.{Room, Passed, FirstReady, Readable};
 ghost use Rattle.reading.specs.Starts.{Ones, without, Starts};
 
 // A one in each place.

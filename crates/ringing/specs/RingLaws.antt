@@ -5,13 +5,15 @@ use native.Mathlib.Omega.{arith}
 use mathlib.Core.Path.{_≡_, sym, _∙_, ap, subst}
 use mathlib.Core.Bool.{true}
 use mathlib.Core.List.{List, [], _++_}
-use lib.ListN.{length, take, drop, length-append}
+use lib.ListN.{length, take, length-append}
 use lib.Seq.{take-at}
 use Rattle.words.specs.All.{All, all-map}
 use Rattle.words.specs.Reduce.{reduce}
 use Rattle.words.specs.ReduceLaws.{reduce-fixed}
 use Rattle.words.specs.Normal.{nf, lex}
 use Rattle.catalogue.specs.Catalogue.{commands}
+use Rattle.plan.specs.Area.{StartsWith}
+use Rattle.plan.specs.AreaLaws.{starts-take}
 use Rattle.plan.specs.Plan.{isCommand}
 use Rattle.plan.specs.Lettered.{Lettered}
 use Rattle.plan.specs.LetteredLaws.{commands-lettered}
@@ -33,27 +35,13 @@ use Rattle.conjugacy.specs.Decision.{part-ring}
 use Rattle.conjugacy.specs.LeadIn.{settling}
 use Rattle.conjugacy.specs.LeadInLaws.{apical-part, settling-enough, settling-length}
 use Rattle.conjugacy.specs.JoinLaws.{part-all}
-use Rattle.parts.specs.Copy.{Copied}
 use Rattle.settle.specs.Settling.{Settleable, Ended, Answered}
 use Rattle.settle.specs.declared.Settled.{Settled}
 use Rattle.settle.specs.declared.Settled.the-variants.{Done, Unsettled}
 use Rattle.reduction.specs.Reducing.{Given}
-use Rattle.longform.specs.Form.{Written}
 use Rattle.wordform.specs.Forming.{Formable}
 use Rattle.ringing.specs.PartLaws.{part-round, turns-all}
 use Rattle.ringing.specs.Ring.{Cyclic, Ringable, Rung}
-
--- the first bytes of what was copied to
-
-module _ {x before after : List ℕ} {r : ℕ} (k : Copied x before after r) where
-  pub copied-fits : r ≤ length after
-  copied-fits = omega (arith, ap length (k .bytes), length-append x (drop r before), k .count)
-
-  pub copied-take : take r after ≡ x
-  copied-take = ap (take r) (k .bytes) ∙ take-at x (drop r before) r (sym (k .count))
-
-  pub copied-count : r ≡ length (take r after)
-  copied-count = k .count ∙ ap length (sym copied-take)
 
 -- what settling answers
 
@@ -197,16 +185,16 @@ module _ {c : List ℕ} {conflicts : List (List ℕ)} {x labels : List ℕ} {ape
               fits = omega (arith, k .fits, letters-length z, part-short (k .core .cyclic) apex);
             }
 
-        pub ended-rung : {before after : List ℕ} {r : ℕ} → Written c z before after r
+        pub ended-rung : {before after : List ℕ} {r : ℕ} → StartsWith (normalForm c z) before after r
             → Rung c x apex after out out′ at (record { ring = r; cycled = e })
         unfolding part-ring
-        ended-rung {before} {after} {r} w =
+        ended-rung w =
             let (a, b) = settling-enough (alphabet c) (apical-part (alphabet c) x (k .apical)) rounds
             (omega (arith, apex-few (k .core .cyclic) (k .apical) (k .enough))) in
             let g : normalForm c z ≡ part-ring (alphabet c) apex x =
             ap (normalForm c) (f ∙ h .reached) ∙ settled-normal (k .core .cyclic) apex rounds (h .still) ∙ a in
             record {
-              ring = ap (take r) (w .bytes) ∙ take-at (normalForm c z) (drop r before) r (sym (w .count)) ∙ g;
+              ring = starts-take w ∙ g;
               count = w .count ∙ ap length g;
               cycled = h .written ∙ ap (λ (y : List ℕ). take at out ++ y) b;
               end = h .end ∙ ap (λ (y : List ℕ). at + length y) b;

@@ -2,9 +2,9 @@
 use Prim.Native.Nat.{ℕ, _≤_}
 use mathlib.Core.List.{List}
 use lib.ListN.{length}
-use Rattle.plan.specs.Letters.{letters}
+use Rattle.plan.specs.Area.{StartsWith}
+use Rattle.plan.specs.Letters.{letters, normalForm}
 use Rattle.reduction.specs.Reducing.{Given}
-use Rattle.longform.specs.Form.{Written}
 
 -- a word of at most so many bytes, and an area with room for its letters
 pub record Formable (most : ℕ) (c : List ℕ) (conflicts : List (List ℕ)) (word area : List ℕ) : Type 0 where
@@ -14,4 +14,5 @@ pub record Formable (most : ℕ) (c : List ℕ) (conflicts : List (List ℕ)) (w
 
 -- for every catalogue of the conflicts the area now begins with the normal form of the word, r letters
 abbrev pub Formed : List (List ℕ) → List ℕ → List ℕ → List ℕ → ℕ → Type 0
-Formed conflicts word before after r = (c : List ℕ) → Given c conflicts word → Written c word before after r
+Formed conflicts word before after r =
+    (c : List ℕ) → Given c conflicts word → StartsWith (normalForm c word) before after r

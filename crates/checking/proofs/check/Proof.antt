@@ -3,7 +3,8 @@
 use mathlib.Core.Path.{sym}
 use borrow.Author.Needs.{needs}
 use lib.Seq.{length-take-le}
-use Rattle.checking.specs.CheckingLaws.{checkable-first, checkable-second, written-fits, checked-in}
+use Rattle.plan.specs.AreaLaws.{starts-fits}
+use Rattle.checking.specs.CheckingLaws.{checkable-first, checkable-second, checked-in}
 use Rattle.checking.proofs.check.Statement.{statement}
 use Rattle.checking.proofs.check.Tie as tie
 
@@ -31,7 +32,7 @@ slice-reshare-prefix-same-bytes : tie.Need-slice-reshare-prefix-same-bytes
 slice-reshare-prefix-same-bytes c =
     let a = first (both c) in
     let (k, f) = product-requires (a .before) (a .product .lifetimes) in
-    written-fits (a .product .ensures k f)
+    starts-fits (a .product .ensures k f)
 
 slice-aggregate-same-bytes : tie.Need-slice-aggregate-same-bytes
 slice-aggregate-same-bytes c = sym (length-take-le _ _ (slice-reshare-prefix-same-bytes (c .before)))
@@ -40,7 +41,7 @@ slice-reshare-prefix-same-bytes-2 : tie.Need-slice-reshare-prefix-same-bytes-2
 slice-reshare-prefix-same-bytes-2 c =
     let d = both (c .before) in
     let (k, f) = product-requires-2 (d .before) (d .product2 .lifetimes) in
-    written-fits (d .product2 .ensures k f)
+    starts-fits (d .product2 .ensures k f)
 
 slice-aggregate-same-bytes-2 : tie.Need-slice-aggregate-same-bytes-2
 slice-aggregate-same-bytes-2 c = sym (length-take-le _ _ (slice-reshare-prefix-same-bytes-2 (c .before)))

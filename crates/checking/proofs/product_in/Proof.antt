@@ -31,7 +31,7 @@ returns : tie.Need-returns
 returns c =
     let n = c .before .before in
     let j = n .before .before .before .before .before .join .ensures in
-    λ k f. joined-written j (n .form .ensures k (joined-given j f))
+    λ k f. joined-written k j (n .form .ensures k (joined-given j f))
 
 pub product-in-spec : {M : Type 1} → statement M
 product-in-spec =

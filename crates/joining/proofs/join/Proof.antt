@@ -4,11 +4,12 @@ use mathlib.Core.List.{List}
 use native.Mathlib.Omega.{arith}
 use lib.ListN.{take}
 use borrow.Author.Needs.{needs}
+use Rattle.plan.specs.AreaLaws.{starts-fits, starts-count}
 use Rattle.coring.specs.Coring.{CoreOf}
 use Rattle.coring.specs.CoringLaws.{core-of}
 use Rattle.crossing.specs.Join.{Plans, Cores}
 use Rattle.spanning.specs.SpanLaws.{cores-room}
-use Rattle.joining.specs.CoresLaws.{stripped, form-count, form-fits, off-count, off-fits}
+use Rattle.joining.specs.CoresLaws.{stripped, off-count, off-fits}
 use Rattle.joining.proofs.join.Statement.{statement}
 use Rattle.joining.proofs.join.Tie as tie
 
@@ -97,12 +98,12 @@ form-of-requires-2 c κs =
 array-share-prefix-x : tie.Need-array-share-prefix-x
 array-share-prefix-x c =
     let o = c .before .before in
-    form-fits (one o (start o .pre .0) (start o .pre .1))
+    starts-fits (one o (start o .pre .0) (start o .pre .1) .form)
 
 slice-aggregate-span : tie.Need-slice-aggregate-span
 slice-aggregate-span c =
     let o = c .before .before .before in
-    form-count (one o (start o .pre .0) (start o .pre .1))
+    starts-count (one o (start o .pre .0) (start o .pre .1) .form)
 
 array-share-prefix-g : tie.Need-array-share-prefix-g
 array-share-prefix-g c =
@@ -117,12 +118,12 @@ slice-aggregate-span-2 c =
 array-share-prefix-y : tie.Need-array-share-prefix-y
 array-share-prefix-y c =
     let o = c .before .before .before .before in
-    form-fits (two o (start o .pre .0) (start o .pre .1))
+    starts-fits (two o (start o .pre .0) (start o .pre .1) .form)
 
 slice-aggregate-span-3 : tie.Need-slice-aggregate-span-3
 slice-aggregate-span-3 c =
     let o = c .before .before .before .before .before in
-    form-count (two o (start o .pre .0) (start o .pre .1))
+    starts-count (two o (start o .pre .0) (start o .pre .1) .form)
 
 array-share-prefix-h : tie.Need-array-share-prefix-h
 array-share-prefix-h c =

@@ -36,7 +36,7 @@ returns : tie.Need-returns
 returns c =
     let d = reduced (c .before .before .before) in
     let m = start (d .before) .pre .2 in
-    λ k g. form-written (c .before .before .read-off .ensures k _
+    λ k g. form-written k _ (c .before .before .read-off .ensures k _
     (form-readable (m .fits) (d .reduce .ensures k (reducing-start g (m .unders) (m .links)))))
 
 pub normal-form-spec : {M : Type 1} → statement M

@@ -5,12 +5,13 @@ use mathlib.Core.List.{List}
 use native.Mathlib.Omega.{arith}
 use lib.ListN.{take}
 use borrow.Author.Needs.{needs}
+use Rattle.plan.specs.Area.{StartsWith}
+use Rattle.plan.specs.AreaLaws.{starts-fits, starts-take, starts-count}
 use Rattle.plan.specs.Letters.{alphabet}
 use Rattle.conjugacy.specs.Part as Part
-use Rattle.parts.specs.Copy.{Copied}
 use Rattle.settle.specs.Settling.{Settleable, Ended}
 use Rattle.ringing.specs.Ring.{Ringable}
-use Rattle.ringing.specs.RingLaws.{copied-fits, copied-take, copied-count, cyclic-lettered, ringable-settle}
+use Rattle.ringing.specs.RingLaws.{cyclic-lettered, ringable-settle}
 use Rattle.ringing.specs.RingLaws.{ringable-unsettled, answered-done, answered-unsettled, ended-take, ended-fits}
 use Rattle.ringing.specs.RingLaws.{ended-count, ended-given, ended-formable, ended-rung}
 use Rattle.ringing.proofs.ring_of.Statement.{statement}
@@ -35,7 +36,7 @@ Asked p k =
     (s .cycled .now) (s .at)
 
 copied : (p : tie.After-part) (k : List ℕ) → Asked p k
-    → (let s = start p .args in Copied (Part.part (alphabet k) (s .apex) (s .core .now))
+    → (let s = start p .args in StartsWith (Part.part (alphabet k) (s .apex) (s .core .now))
     (p .before .before .before .before .sheet .result) (p .part .last .1 .1 .1 .0) (p .part .result))
 copied p k h = p .part .ensures k (h .core .labelled)
 
@@ -44,7 +45,7 @@ settleable : (p : tie.After-part) (k : List ℕ) → Asked p k
     (s .conflicts .now) (p .before .before .before .sheet2 .result) (p .before .before .sheet3 .result)
     (s .cycled .now) (s .at))
 settleable p k h =
-    ringable-settle h (copied-take (copied p k h)) (p .before .before .before .sheet2 .ensures)
+    ringable-settle h (starts-take (copied p k h)) (p .before .before .before .sheet2 .ensures)
     (p .before .before .sheet3 .ensures)
 
 -- the rounds were enough
@@ -77,13 +78,13 @@ array-borrow-prefix-word : tie.Need-array-borrow-prefix-word
 array-borrow-prefix-word c =
     let p = c .before in
     let (k, h) = start p .pre in
-    copied-fits (copied p k h)
+    starts-fits (copied p k h)
 
 slice-aggregate-settle : tie.Need-slice-aggregate-settle
 slice-aggregate-settle c =
     let p = c .before .before in
     let (k, h) = start p .pre in
-    copied-count (copied p k h)
+    starts-count (copied p k h)
 
 slice-aggregate-settle-2 : tie.Need-slice-aggregate-settle-2
 slice-aggregate-settle-2 c = search needs
@@ -111,7 +112,7 @@ returns c =
     let t = c .before .before .before .before .before .before .before in
     let p = copy t in
     λ k h.
-    ringable-unsettled h (copied-take (copied p k h))
+    ringable-unsettled h (starts-take (copied p k h))
     (answered-unsettled k _ _ _ _ _ _ _ (t .settle .ensures k (settleable p k h)) (c .enum-told .given .1))
 
 array-share-prefix-word : tie.Need-array-share-prefix-word
@@ -120,7 +121,7 @@ array-share-prefix-word c =
     let p = copy (settling q) in
     let (k, h) = start p .pre in
     let d = copied p k h in
-    ended-fits h (copied-take d) (ended q k h) _ _ (copied-count d)
+    ended-fits h (starts-take d) (ended q k h) _ _ (starts-count d)
 
 slice-aggregate-form : tie.Need-slice-aggregate-form
 slice-aggregate-form c =
@@ -128,16 +129,16 @@ slice-aggregate-form c =
     let p = copy (settling q) in
     let (k, h) = start p .pre in
     let d = copied p k h in
-    ended-count h (copied-take d) (ended q k h) _ _ (copied-count d)
+    ended-count h (starts-take d) (ended q k h) _ _ (starts-count d)
 
 form-requires : tie.Need-form-requires
 form-requires c κs =
     let q = c .before .before .before in
     let p = copy (settling q) in
     let (k, h) = start p .pre in
-    let d = copied-take (copied p k h) in
+    let d = starts-take (copied p k h) in
     let o = ended q k h in
-    (k, ended-formable h d o (ended-take h d o _ _ (copied-count (copied p k h))) refl)
+    (k, ended-formable h d o (ended-take h d o _ _ (starts-count (copied p k h))) refl)
 
 same-length-2 : tie.Need-same-length-2
 same-length-2 c = search needs
@@ -150,9 +151,9 @@ returns-2 c =
     let q = c .before .before .before .before .before .before in
     let p = copy (settling q) in
     λ k h.
-    let d = copied-take (copied p k h) in
+    let d = starts-take (copied p k h) in
     let o = ended q k h in
-    let f = ended-take h d o _ _ (copied-count (copied p k h)) in
+    let f = ended-take h d o _ _ (starts-count (copied p k h)) in
     ended-rung h d o f (c .before .before .form .ensures k (ended-given h d o f))
 
 pub ring-of-spec : {M : Type 1} → statement M
