@@ -41,17 +41,28 @@ struct row {
 #define K P(4, 3, 1, 2, 3, 0, 2, 0, 3, 0, 4, 0)
 #define NO_COMMANDS P(0, 0)
 
-/* Filled by fill_long: plans of fillers, plans of the letter 1, catalogues of 24 and 25 commands without conflicts, and
- * a catalogue of two commands whose first chain goes through 255 records. */
+/* Filled by fill_long: plans of fillers, plans of the letter 1, catalogues of 24 and 25 commands without conflicts, a
+ * catalogue of two commands whose first chain goes through 255 records, and rings of 130 letters: 2 but for one 1, at the
+ * end or in the middle, or one -1 at the end. */
 static uint8_t fillers[MOST_LEAD_IN + 1], ones[MOST_LEAD_IN + 1], twenty_four[26], twenty_five[27], long_chain[514];
+static uint8_t one_late[130], one_amid[130], undo_late[130];
 #define FILLERS(n) {fillers, n}
 #define ONES(n) {ones, n}
 #define TWENTY_FOUR {twenty_four, sizeof twenty_four}
 #define TWENTY_FIVE {twenty_five, sizeof twenty_five}
 #define LONG_CHAIN {long_chain, sizeof long_chain}
+#define ONE_LATE {one_late, sizeof one_late}
+#define ONE_AMID {one_amid, sizeof one_amid}
+#define UNDO_LATE {undo_late, sizeof undo_late}
 
 static void fill_long(void) {
     memset(ones, 1, sizeof ones);
+    memset(one_late, 2, sizeof one_late);
+    memset(one_amid, 2, sizeof one_amid);
+    memset(undo_late, 2, sizeof undo_late);
+    one_late[129] = 1;
+    one_amid[64] = 1;
+    undo_late[129] = U(1);
     twenty_four[0] = 24;
     twenty_five[0] = 25;
     long_chain[0] = 2;
@@ -115,6 +126,9 @@ static const struct row rows[] = {
     LOOP("two long loops", TWENTY_FOUR, ONES(1024), ONES(1024), EXACT, JOINED),
     LOOP("two empty loops", K, NONE, NONE, 0, JOINED),
     LOOP("an empty loop and a loop", K, NONE, P(1), EXACT, 0),
+    LOOP("two loops of one core", K, P(1, 2, U(1)), P(3, 2, U(3)), EXACT, JOINED),
+    LOOP("a ring of 130 letters, turned", K, ONE_LATE, ONE_AMID, EXACT, JOINED),
+    LOOP("a ring of 130 letters, its last one undone", K, ONE_LATE, UNDO_LATE, EXACT, 0),
 
     /* Catalogues */
     REFUSED("no catalogue", NONE, NONE, EXACT, 1),
