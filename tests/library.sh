@@ -14,6 +14,7 @@ if [ -z "$library" ]; then
       echo "$0: the Rattle kit is not on this machine: no command rt" >&2
       exit 1
     fi
+    rt check busplan # proves several crates at a time
     rt staticlib busplan
   fi
 fi
