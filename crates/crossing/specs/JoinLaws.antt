@@ -61,7 +61,7 @@ module _ {c : List ℕ} {conflicts : List (List ℕ)} {v w x g y h : List ℕ} {
   module _ (row : List ℕ) (r : crossRoom n x g y h ≤ length row) where
     begun : length g + n * (length x + length y) ≤ length row
     begun =
-        let z = no-letters c (p .first .few) (p .first .passing) (p .second .passing) (k .first) (k .second) in
+        let z = no-letters c k in
         let e = around n (length g) (length x) (length h) (length y) (λ m. z (sym (p .many) ∙ m)) in
         omega (arith, e, r)
 
@@ -79,17 +79,15 @@ module _ {c : List ℕ} {conflicts : List (List ℕ)} {v w x g y h : List ℕ} {
     pub join-short : {row′ : List ℕ} {at end : ℕ} {row″ : List ℕ} → Appended row 0 g row′ at
         → CoresLed c x y row′ at row″ end → end + length h ≤ length row
     join-short a j =
-        let t = through-room c (p .first .few) (p .first .passing) (p .second .passing) (k .first) (k .second)
-        (j .leads) in
-        let s = subst (λ m. length (through (alphabet c) g (j .way) h) ≤ crossRoom m x g y h) (sym (p .many)) t in
-        omega (arith, a .ends, j .ends, s, through-count (alphabet c) g (j .way) h, r)
+        let t = through-room c k (j .passage) in
+        let s = subst (λ m. length (through (alphabet c) g (j .word) h) ≤ crossRoom m x g y h) (sym (p .many)) t in
+        omega (arith, a .ends, j .ends, s, through-count (alphabet c) g (j .word) h, r)
 
   -- the verdict, where there is no lead-in
   pub join-stop : (before : List ℕ) (at : ℕ) (after : List ℕ) (o : Outcome) → Stops o
       → CoresLead c x y before at after o → LeadsWord c v w after o
   join-stop before at after (Joined e) s d = absurd s
-  join-stop before at after Apart s d =
-      sym (verdict c (p .first .few) (p .first .passing) (p .second .passing) (k .first) (k .second)) ∙ d
+  join-stop before at after Apart s d = sym (verdict c k) ∙ d
   join-stop before at after (Unsettled q) s d = d
 
   -- the word in the row
@@ -97,27 +95,21 @@ module _ {c : List ℕ} {conflicts : List (List ℕ)} {v w x g y h : List ℕ} {
       → CoresLed c x y row′ at row″ end → Appended row″ end (undoneBefore h []) row‴ last
       → end + length h ≤ length row″ → LeadWord c v w row‴ last
   join-word {row} {row′} {row″} {row‴} {at} {end} {last} a m j b f =
-      let u = j .way in
+      let u = j .word in
       let t = through (alphabet c) g u h in
       let e : take last row‴ ≡ t =
       appended-take b (omega (arith, b .ends, undone-length h []))
       ∙ ap (λ (z : List ℕ). z ++ undoneBefore h []) (j .written ∙ ap (λ (z : List ℕ). z ++ u) (appended-take a m))
       ∙ append-assoc g u (undoneBefore h []) ∙ ap (λ (z : List ℕ). g ++ (u ++ z)) (undone-undo c h []) in
-      let s = through-short c (p .first .few) (p .first .passing) (p .second .passing) (k .first) (k .second) (j .leads)
-      in
+      let s = through-short c k (j .passage) in
       let q : last ≡ length t =
       omega (arith, a .ends, j .ends, b .ends, undone-length h [], through-count (alphabet c) g u h) in
       record {
-        joined = through-joined c (p .first .few) (p .first .passing) (p .second .passing) (k .first) (k .second)
-            (j .leads);
+        joined = through-joined c k (j .passage);
         count = q ∙ ap length (sym e);
-        letters = rw e
-            (through-commands c (p .first .few) (p .first .passing) (p .second .passing) (k .first) (k .second)
-            (j .leads));
+        letters = rw e (through-commands c k (j .passage));
         short = omega (arith, q, s);
-        leads = rw e
-            (through-lead-in c (p .first .few) (p .first .passing) (p .second .passing) (k .first) (k .second)
-            (j .leads));
+        leads = rw e (through-lead-in c k (j .passage));
       }
 
 -- what the way from core to core tells

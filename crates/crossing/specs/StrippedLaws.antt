@@ -31,8 +31,9 @@ use Rattle.plan.specs.NormalFormLaws.{normal-letters, normal-passing}
 use Rattle.plan.specs.JoinLaws.{joins-words}
 use Rattle.calls.specs.Calls.{coreForm}
 use Rattle.calls.specs.Loops.{LeadIn, leadInRoom}
-use Rattle.pairing.specs.Pair.{Way}
+use Rattle.pairing.specs.Pair.{Passage}
 use Rattle.crossing.specs.Stripped.{Stripped}
+use Rattle.crossing.specs.Join.{Cores}
 use Rattle.crossing.specs.VerdictLaws.{cores-verdict, through, through-conj, through-count, through-all}
 
 module _ (c : List ℕ) where
@@ -77,21 +78,32 @@ module _ (c : List ℕ) where
 
   -- two plans
 
-  module _ {v w x y g h : List ℕ} (few : commands c ≤ 24) (pv : Passing (commands c) v) (pw : Passing (commands c) w)
-      (k : Stripped c v x g) (l : Stripped c w y h) where
+  module _ {conflicts : List (List ℕ)} {v w x g y h : List ℕ} {n : ℕ} (d : Cores c conflicts v w x g y h n) where
+    abbrev k : Stripped c v x g
+    k = d .first
+
+    abbrev l : Stripped c w y h
+    l = d .second
+
+    abbrev pv : Passing (commands c) v
+    pv = d .plans .first .passing
+
+    abbrev pw : Passing (commands c) w
+    pw = d .plans .second .passing
+
     -- with no commands there are no letters
     pub no-letters : commands c ≡ 0 → (2 * length g + length x) + (2 * length h + length y) ≡ 0
     no-letters e =
         let n = commands c in
         let r : (z : List ℕ) → Passing n z → length (letters z) ≡ 0 =
-        λ z p. none-occur (alphabet c) n (letters z) (commands-range n (letters z) few (letters-commands n z p)) e in
+        λ z p. none-occur (alphabet c) n (letters z) (commands-range n (letters z) (d .plans .first .few) (letters-commands n z p)) e in
         omega (arith, r v pv, r w pw, off-length k, off-length l)
 
     pub verdict : cores-joined? (alphabet c) x y ≡ joined? (alphabet c) (letters v) (letters w)
     verdict = cores-verdict (alphabet c) (letters v) (letters w) x y (core-~ k) (core-~ l)
 
-    -- where a way leads from core to core, so does one from plan to plan
-    module _ {u : List ℕ} (q : Way c x y u) where
+    -- where a passage leads from core to core, a word leads from plan to plan
+    module _ {u : List ℕ} (q : Passage c x y u) where
       abbrev t : List ℕ
       t = through (alphabet c) g u h
 
@@ -129,14 +141,14 @@ module _ (c : List ℕ) where
           let pt = commands-passing (commands c) t through-commands in
           let e : letters t ≡ t = letters-same (commands c) t through-commands in
           let f : letters (normalForm c t) ≡ normalForm c t = normal-letters c t pt in
-          let d : conj (alphabet c) (letters (normalForm c t)) (letters v) ≈ letters w =
+          let z : conj (alphabet c) (letters (normalForm c t)) (letters v) ≈ letters w =
           rw f (then (≈-conj-by (alphabet c) (then (nf-≈ (alphabet c) (letters t)) (≈-of-≡ (alphabet c) e)) (letters v))
           conjugates) in
           record {
             normal = ap (nf (alphabet c)) f
                 ∙ nf-fixed (alphabet c) (normalForm c t) (nf-reduced (alphabet c) (letters t))
                 (nf-ordered (alphabet c) (letters t));
-            joins = joins-words c v w (normalForm c t) pv pw (normal-passing c t pt) .1 d;
+            joins = joins-words c v w (normalForm c t) pv pw (normal-passing c t pt) .1 z;
             short = omega (
               arith,
               nf-length (alphabet c) (letters t),

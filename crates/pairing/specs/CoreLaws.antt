@@ -16,7 +16,7 @@ use Rattle.leading.specs.declared.Outcome.{Outcome}
 use Rattle.leading.specs.declared.Outcome.the-variants.{Joined, Apart, Unsettled}
 use Rattle.leading.specs.Lead.{Leads}
 use Rattle.pairing.specs.Pair.{Leadable, Coreable, CoresLead}
-use Rattle.pairing.specs.WayLaws.{parts-way}
+use Rattle.pairing.specs.PassageLaws.{parts-passage}
 
 -- what the comparison of the flags tells
 pub tells-same : {P : Type 0} {r : Bool} → (r ≡ true) ↔ P → not r ≡ false → P
@@ -61,8 +61,8 @@ module _ {c : List ℕ} {conflicts : List (List ℕ)} {x y : List ℕ} {rounds :
     pub cores-lead : (after : List ℕ) (o : Outcome) → Leads c x y (apexes (alphabet c) x) row at after o
         → CoresLead c x y row at after o
     cores-lead after (Joined end) d = record {
-      way = parts-lead (alphabet c) (apexes (alphabet c) x) x y;
-      leads = parts-way (h .first) (h .second) (decided ∙ d .joined);
+      word = parts-lead (alphabet c) (apexes (alphabet c) x) x y;
+      passage = parts-passage (h .first) (h .second) (decided ∙ d .joined);
       written = d .written;
       ends = d .ends;
     }

@@ -52,17 +52,17 @@ pub record Coreable (c : List ℕ) (conflicts : List (List ℕ)) (x y : List ℕ
 
 -- u leads from core x to core y, in commands of the catalogue. Its letters and those of x are at most 2N times as many
 -- as those of x.
-pub record Way (c x y u : List ℕ) : Type 0 where
+pub record Passage (c x y u : List ℕ) : Type 0 where
   pub leads : _≈_ (alphabet c) (conj (alphabet c) u x) y
   pub letters : Commands (Catalogue.commands c) u
   pub short : length u + length x ≤ (2 * Catalogue.commands c) * length x
 
--- behind the first `at` bytes now stands a way from one core to the other, up to `end`
+-- behind the first `at` bytes now stands a passage from one core to the other, up to `end`
 pub record CoresLed (c x y before : List ℕ) (at : ℕ) (after : List ℕ) (end : ℕ) : Type 0 where
-  pub way : List ℕ
-  pub leads : Way c x y way
-  pub written : take end after ≡ take at before ++ way
-  pub ends : end ≡ at + length way
+  pub word : List ℕ
+  pub passage : Passage c x y word
+  pub written : take end after ≡ take at before ++ word
+  pub ends : end ≡ at + length word
 
 abbrev pub CoresLead : List ℕ → List ℕ → List ℕ → List ℕ → ℕ → List ℕ → Outcome → Type 0
 CoresLead c x y before at after (Joined end) = CoresLed c x y before at after end

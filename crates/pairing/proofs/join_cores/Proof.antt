@@ -8,7 +8,7 @@ use Rattle.plan.specs.Letters.{alphabet}
 use Rattle.conjugacy.specs.Part.{commands}
 use Rattle.ringing.specs.RingLaws.{cyclic-lettered}
 use Rattle.pairing.specs.CoreLaws.{tells-same, cores-apart, cores-leadable, cores-lead}
-use Rattle.pairing.specs.WayLaws.{cores-same}
+use Rattle.pairing.specs.PassageLaws.{cores-same}
 use Rattle.pairing.proofs.join_cores.Statement.{statement}
 use Rattle.pairing.proofs.join_cores.Tie as tie
 

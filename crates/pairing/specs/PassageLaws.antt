@@ -1,4 +1,4 @@
--- Ways from one core to another: none where they are the same, and else the lead-ins of their parts.
+-- Passages from one core to another: none where they are the same, and else the lead-ins of their parts.
 use Prim.Native.Nat.{ℕ, zero, suc, _+_, _*_, _≤_}
 use native.Mathlib.Omega.{arith}
 use native.Mathlib.Nat.{mul-le-mul-right}
@@ -23,7 +23,7 @@ use Rattle.plan.specs.CommandLaws.{isCommand-undone}
 use Rattle.plan.specs.Letters.{alphabet}
 use Rattle.plan.specs.LettersLaws.{commands-range}
 use Rattle.ringing.specs.Ring.{Cyclic}
-use Rattle.pairing.specs.Pair.{Way, CoresLed}
+use Rattle.pairing.specs.Pair.{Passage, CoresLed}
 
 -- nothing at all is short, for with no commands there are no letters
 none-short : (n l : ℕ) → (n ≡ 0 → l ≡ 0) → l ≤ (2 * n) * l
@@ -38,8 +38,8 @@ module _ {c : List ℕ} {conflicts : List (List ℕ)} {x : List ℕ} (k : Cyclic
 
   pub cores-same : {y : List ℕ} (row : List ℕ) (at : ℕ) → x ≡ y → CoresLed c x y row at row at
   cores-same row at e = record {
-    way = [];
-    leads = record {
+    word = [];
+    passage = record {
       leads = ≈-of-≡ (alphabet c) (conj-nil (alphabet c) x ∙ e);
       letters = tt;
       short = omega (arith, none-short (commands c) (length x) (none-occur (alphabet c) (commands c) x range));
@@ -48,9 +48,9 @@ module _ {c : List ℕ} {conflicts : List (List ℕ)} {x : List ℕ} (k : Cyclic
     ends = omega arith;
   }
 
-  pub parts-way : {y : List ℕ} → Cyclic c conflicts y → cores-joined? (alphabet c) x y ≡ true
-      → Way c x y (parts-lead (alphabet c) (apexes (alphabet c) x) x y)
-  parts-way {y} l t =
+  pub parts-passage : {y : List ℕ} → Cyclic c conflicts y → cores-joined? (alphabet c) x y ≡ true
+      → Passage c x y (parts-lead (alphabet c) (apexes (alphabet c) x) x y)
+  parts-passage {y} l t =
       let Γ = alphabet c in
       let u = parts-lead Γ (apexes Γ x) x y in
       let (f, p) = cores-true Γ x y t in
