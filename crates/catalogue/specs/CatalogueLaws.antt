@@ -7,7 +7,7 @@ use mathlib.Core.Path.{_≡_, refl, sym, _∙_, ap}
 use mathlib.Core.Bool.{Bool, true, false, true≢false}
 use mathlib.Core.List.{List, _∷_}
 use mathlib.Core.Logic.{_⊎_, inl, inr}
-use Rattle.catalogue.specs.Catalogue.{records, command, next, ends, follow}
+use Rattle.catalogue.specs.Catalogue.{records, command, next, head, ends, follow, chain}
 
 -- how many of the numbers 1 to n pass a test
 abbrev count-step : Bool → ℕ → ℕ
@@ -123,3 +123,8 @@ module _ (c : List ℕ) where
         go : (t : Bool) → ends c n i ≡ t → ends c n i ≡ false
         go true e = absurd (true≢false (sym (ends-within n i h e) ∙ f))
         go false e = e
+
+  -- the commands of a chain that ends are the same however many more records are allowed
+  pub chain-whole : (a n : ℕ) → ends c (records c) (head c a) ≡ true → records c ≤ n
+      → follow c n (head c a) ≡ chain c a
+  chain-whole a n e h = follow-more (records c) n (head c a) h e

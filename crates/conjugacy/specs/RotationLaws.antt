@@ -9,14 +9,11 @@ use mathlib.Core.Option.{none, some, Option·some-injective, Option·none-ne-som
 use lib.ListN.{length, take, drop, take-append-drop, length-append}
 use lib.Seq.{take-append-le, drop-append-le, take-length, drop-length}
 use Rattle.words.specs.Alphabet.{Alphabet, Word}
-use Rattle.words.specs.All.{All, all-append}
 use Rattle.words.specs.Group as Group
 use Rattle.words.specs.Group.{conj, then}
 use Rattle.words.specs.GroupLaws.{≈-of-≡, ≈-after, conj-of}
-use Rattle.conjugacy.specs.Turn.{Turns, turn, also}
 use Rattle.conjugacy.specs.Rotation.{rotate, agree, agree-step, search, search-step, rotation}
 use Rattle.conjugacy.specs.Rotation.{Rotated, stay, roll}
-use Rattle.conjugacy.specs.TurnLaws.{turns-refl}
 
 module _ (Γ : Alphabet) where
   open Alphabet Γ using (Letter, cmd)
@@ -74,14 +71,6 @@ module _ (Γ : Alphabet) where
   pub rotated-length : {r t : Word Γ} → Rotated Γ r t → length r ≡ length t
   rotated-length stay = refl
   rotated-length (roll {b = b} {r = r} k) = omega (arith, rotated-length k, length-append r (b ∷ []))
-
-  pub rotated-all : (P : Letter → Type 0) {r t : Word Γ} → Rotated Γ r t → All P r → All P t
-  rotated-all P stay h = h
-  rotated-all P (roll {b = b} {r = r} k) h = rotated-all P k (all-append P r (b ∷ []) (h .1) (h .0, tt))
-
-  pub rotated-turns : {r t : Word Γ} → Rotated Γ r t → Turns Γ r t
-  rotated-turns (stay {r = r}) = turns-refl Γ r
-  rotated-turns (roll k) = also turn (rotated-turns k)
 
   -- a first half cycled to the end conjugates
   pub cycle-conj : (p q : Word Γ) {w : Word Γ} → w ≈ (p ++ q) → conj Γ p w ≈ (q ++ p)

@@ -76,10 +76,6 @@ module _ (Γ : Alphabet) where
 module _ (Γ : Alphabet) (m : ℕ) where
   open Alphabet Γ using (Letter, cmd, conf)
 
-  infix 20 _~_
-  abbrev _~_ : Word Γ → Word Γ → Type 0
-  _~_ = Trace._~_ Γ
-
   -- what stays low behind a word that is raised whole
   split-behind : {R : List ℕ} (q : Word Γ) {t p x y : Word Γ} → Split Γ m R q [] t → Split Γ m R (q ++ p) x y
       → Covers Γ p x × Independent Γ x q

@@ -1,5 +1,5 @@
--- Laws of splitting and settling: the split is one of the word up to swaps, its second half is a pyramid, it goes along
--- swaps, the functions compute the relations, and a settled word is reached by cyclings.
+-- Laws of splitting and settling: the split is one of the word up to swaps, its second half is a pyramid, the functions
+-- compute the relations, and a settled word is reached by cyclings.
 use Prim.Native.Nat.{ℕ, zero, suc, _≤_}
 use native.Mathlib.Omega.{arith}
 use mathlib.Core.Path.{_≡_, refl, sym, _∙_, ap, subst}
@@ -12,16 +12,12 @@ use Rattle.words.specs.BoolLaws.{or-either, or-neither}
 use Rattle.words.specs.Alphabet.{Alphabet, Word}
 use Rattle.words.specs.All.{All, all-map}
 use Rattle.words.specs.Trace as Trace
-use Rattle.words.specs.Trace.{here, there, First, done, cons, swap, next}
-use Rattle.words.specs.TraceLaws.{dep-sym, ~-refl, ~-sym, ~-before, ~-after, ~-nil, ~-length, first-along}
+use Rattle.words.specs.Trace.{here, there, First, done, cons, next}
+use Rattle.words.specs.TraceLaws.{dep-sym, ~-sym, first-along}
 use Rattle.words.specs.TraceLaws.{Apart, apart-pass}
-use Rattle.words.specs.Group as Group
-use Rattle.words.specs.Group.{conj, then}
-use Rattle.words.specs.GroupLaws.{~→≈, ≈-of-≡, ≈-conj, conj-nil, conj-append}
 use Rattle.words.specs.Normal.{meets, meets-step}
 use Rattle.conjugacy.specs.Turn.{Turns, same, also}
 use Rattle.conjugacy.specs.TurnLaws.{turns-refl, turns-rotate}
-use Rattle.conjugacy.specs.RotationLaws.{cycle-conj}
 use Rattle.conjugacy.specs.Settle.{hit, raise, put, split, settled, settled-step, cycled, cycled-step}
 use Rattle.conjugacy.specs.Settle.{Split, stop, up, low, Rounded, quiet, round}
 
@@ -35,12 +31,9 @@ or-swap false false c = refl
 module _ (Γ : Alphabet) (m : ℕ) where
   open Alphabet Γ using (Letter, cmd, conf)
 
-  infix 20 _~_ _≈_
+  infix 20 _~_
   abbrev _~_ : Word Γ → Word Γ → Type 0
   _~_ = Trace._~_ Γ
-
-  abbrev _≈_ : Word Γ → Word Γ → Type 0
-  _≈_ = Group._≈_ Γ
 
   -- every letter that can come first is an apex letter
   abbrev pub Pyramid : Word Γ → Type 0
@@ -70,13 +63,6 @@ module _ (Γ : Alphabet) (m : ℕ) where
       → (conf (cmd b) k ≡ false) × (hit Γ m R b ≡ false)
   hit-less k R b h = or-neither (conf (cmd b) k) (hit Γ m R b) (sym (hit-cons k R b) ∙ h)
 
-  pub hit-swap : (j k : ℕ) (R : List ℕ) (b : Letter) → hit Γ m (j ∷ k ∷ R) b ≡ hit Γ m (k ∷ j ∷ R) b
-  hit-swap j k R b =
-      twice j k ∙ or-swap (conf (cmd b) j) (conf (cmd b) k) (hit Γ m R b) ∙ sym (twice k j)
-    where
-      twice : (j k : ℕ) → hit Γ m (j ∷ k ∷ R) b ≡ (conf (cmd b) j || (conf (cmd b) k || hit Γ m R b))
-      twice j k = rw (hit-cons j (k ∷ R) b, hit-cons k R b)
-
   pub hit-apex : (R : List ℕ) (b : Letter) → hit Γ m R b ≡ false → ¬ (cmd b ≡ m)
   unfolding hit
   hit-apex R b h e = eqb-false (cmd b) m (or-neither (eqb (cmd b) m) (meets Γ (cmd b) R) h .0) e
@@ -88,16 +74,6 @@ module _ (Γ : Alphabet) (m : ℕ) where
       go : (eqb (cmd b) m ≡ true) ⊎ (false ≡ true) → cmd b ≡ m
       go (inl e) = eqb-true (cmd b) m e
       go (inr e) = absurd (true≢false (sym e))
-
-  -- sets of raised commands that hit the same letters split a word the same way
-  pub split-set : {R S : List ℕ} {w p q : Word Γ} → ((b : Letter) → hit Γ m R b ≡ hit Γ m S b)
-      → Split Γ m R w p q → Split Γ m S w p q
-  split-set f stop = stop
-  split-set {R} {S} f (up {b = b} h s) = up (sym (f b) ∙ h) (split-set more s)
-    where
-      more : (c : Letter) → hit Γ m (cmd b ∷ R) c ≡ hit Γ m (cmd b ∷ S) c
-      more c = rw (hit-cons (cmd b) R c, hit-cons (cmd b) S c, f c)
-  split-set f (low {b = b} h s) = low (sym (f b) ∙ h) (split-set f s)
 
   -- the halves of a split
 
@@ -147,14 +123,6 @@ module _ (Γ : Alphabet) (m : ℕ) where
   raised [] R = R
   raised (b ∷ u) R = raised u (cmd b ∷ R)
 
-  hit-raised : (u : Word Γ) (R : List ℕ) (a : Letter) → hit Γ m (raised u R) a ≡ false
-      → Apart Γ a u × (hit Γ m R a ≡ false)
-  hit-raised [] R a h = (tt, h)
-  hit-raised (b ∷ u) R a h =
-      let (k, l) = hit-raised u (cmd b ∷ R) a h in
-      let (d, n) = hit-less (cmd b) R a l in
-      ((d, k), n)
-
   -- behind a word that is raised whole
   split-behind : {R : List ℕ} {u q x y : Word Γ} (v : Word Γ) → Split Γ m R u [] q → Split Γ m R (u ++ v) x y
       → (z : Word Γ) × Split Γ m (raised u R) v x z
@@ -162,40 +130,7 @@ module _ (Γ : Alphabet) (m : ℕ) where
   split-behind v (up h s) (up k t) = split-behind v s t
   split-behind v (up h s) (low k t) = absurd (true≢false (sym h ∙ k))
 
-  -- what is in the first half after a round was in it before, and is independent of the second half before
-  pub split-again : {w p q x y : Word Γ} → Split Γ m [] w p q → Split Γ m [] (q ++ p) x y
-      → (z : Word Γ) × (p ~ (x ++ z)) × All (λ a. Apart Γ a q) x
-  split-again {p = p} {q = q} {x = x} s t =
-      let (z, o) = split-behind p (split-upper s) t in
-      (z, split-~ o, all-map (λ a h. hit-raised q [] a h .0) x (split-low o))
-
   -- the split goes along swaps
-
-  pub split-along : {R : List ℕ} {w v p q : Word Γ} → w ~ v → Split Γ m R w p q
-      → (x : Word Γ) × (y : Word Γ) × Split Γ m R v x y × (p ~ x) × (q ~ y)
-  split-along done stop = ([], [], stop, done, done)
-  split-along (cons {a = a} e) (up h s) =
-      let (x, y, t, f, g) = split-along e s in
-      (x, a ∷ y, up h t, f, cons g)
-  split-along (cons {a = a} e) (low h s) =
-      let (x, y, t, f, g) = split-along e s in
-      (a ∷ x, y, low h t, cons f, g)
-  split-along {R} (swap {a = a} {b = b} d) (up h (up {p = p} {q = q} k s)) =
-      let j : hit Γ m R b ≡ true = sym (hit-past (cmd a) R b (dep-sym Γ {a = a} {b = b} d)) ∙ k in
-      let i : hit Γ m (cmd b ∷ R) a ≡ true = hit-past (cmd b) R a d ∙ h in
-      (p, b ∷ a ∷ q, up j (up i (split-set (hit-swap (cmd b) (cmd a) R) s)), ~-refl Γ p, swap d)
-  split-along {R} (swap {a = a} {b = b} d) (up h (low {p = p} {q = q} k s)) =
-      let j : hit Γ m R b ≡ false = hit-less (cmd a) R b k .1 in
-      (b ∷ p, a ∷ q, low j (up h s), ~-refl Γ _, ~-refl Γ _)
-  split-along {R} (swap {a = a} {b = b} d) (low h (up {p = p} {q = q} k s)) =
-      let i : hit Γ m (cmd b ∷ R) a ≡ false = hit-past (cmd b) R a d ∙ h in
-      (a ∷ p, b ∷ q, up k (low i s), ~-refl Γ _, ~-refl Γ _)
-  split-along (swap {a = a} {b = b} d) (low h (low {p = p} {q = q} k s)) =
-      (b ∷ a ∷ p, q, low k (low h s), swap d, ~-refl Γ q)
-  split-along (next e f) s =
-      let (x, y, t, g, h) = split-along e s in
-      let (x′, y′, t′, g′, h′) = split-along f t in
-      (x′, y′, t′, next g g′, next h h′)
 
   -- the function computes the relation, which has one result
 
@@ -218,25 +153,6 @@ module _ (Γ : Alphabet) (m : ℕ) where
   split-unique (low {b = b} h s) = let (e, f) = split-unique s in (rw h (ap (λ (x : Word Γ). b ∷ x) e), rw h f)
 
   -- rounds
-
-  -- a round of a word whose split is p and q, the rounds after it known
-  round-again : {n : ℕ} {b : Letter} {v p g r x : Word Γ} (y : Word Γ) → Split Γ m [] v x y → (b ∷ p) ~ x
-      → (h : Word Γ) × (s : Word Γ) × Rounded Γ m n (y ++ x) h s × (g ~ h) × (r ~ s)
-      → (h : Word Γ) × (s : Word Γ) × Rounded Γ m (suc n) v h s × ((b ∷ p ++ g) ~ h) × (r ~ s)
-  round-again {x = []} y t f ih = absurd (omega (arith, ~-length Γ f))
-  round-again {p = p} {g = g} {x = c ∷ x} y t f (h, s, o, j, k) =
-      (c ∷ x ++ h, s, round t o, next (~-after Γ f g) (~-before Γ (c ∷ x) j), k)
-
-  -- words that swaps lead between take equally many rounds, and reach words that swaps lead between
-  pub rounded-along : {n : ℕ} {w v g r : Word Γ} → w ~ v → Rounded Γ m n w g r
-      → (h : Word Γ) × (s : Word Γ) × Rounded Γ m n v h s × (g ~ h) × (r ~ s)
-  rounded-along {v = v} e (quiet s) =
-      let (x, y, t, f, g) = split-along e s in
-      let n : x ≡ [] = ~-nil Γ (~-sym Γ f) in
-      ([], v, quiet (rw n at t), done, e)
-  rounded-along e (round {b = b} {p = p} {q = q} s o) =
-      let (x, y, t, f, g) = split-along e s in
-      round-again y t f (rounded-along (next (~-after Γ g (b ∷ p)) (~-before Γ y f)) o)
 
   -- what the functions compute, given rounds enough
   pub rounded-settled : {n : ℕ} {w g r : Word Γ} → Rounded Γ m n w g r → (k : ℕ) → n ≤ k
@@ -268,16 +184,6 @@ module _ (Γ : Alphabet) (m : ℕ) where
           (settled-step Γ m w p q (settled Γ m k))
       go [] q s e ih = (zero, omega arith, quiet s)
       go (b ∷ p) q s e ih = let (n, h, o) = ih e in (suc n, omega arith, round s o)
-
-  pub rounded-pyramid : {n : ℕ} {w g r : Word Γ} → Rounded Γ m n w g r → Pyramid r
-  rounded-pyramid (quiet s) = pyramid-along (~-sym Γ (split-~ s)) (split-pyramid s)
-  rounded-pyramid (round s o) = rounded-pyramid o
-
-  pub rounded-conj : {n : ℕ} {w g r : Word Γ} → Rounded Γ m n w g r → conj Γ g w ≈ r
-  rounded-conj {w = w} (quiet s) = ≈-of-≡ Γ (conj-nil Γ w)
-  rounded-conj {w = w} (round {b = b} {p = p} {q = q} {g = g} s o) =
-      then (≈-of-≡ Γ (conj-append Γ (b ∷ p) g w))
-      (then (≈-conj Γ g (cycle-conj Γ (b ∷ p) q (~→≈ Γ (split-~ s)))) (rounded-conj o))
 
   pub rounded-turns : {n : ℕ} {w g r : Word Γ} → Rounded Γ m n w g r → Turns Γ w r
   rounded-turns {w = w} (quiet s) = turns-refl Γ w

@@ -11,7 +11,7 @@ use Rattle.words.specs.TraceLaws.{~-refl, ~-sym, ~-length, pick-front, pick-alo
 use Rattle.words.specs.TraceLaws.{not-first-nil, not-first-cons}
 use Rattle.words.specs.TraceLaws.{Splits, early, late, pick-split}
 use Rattle.words.specs.GroupLaws.{dep-inv-right, undo-onto, undo-append, ~-undo}
-use Rattle.words.specs.ReduceLaws.{reduced-along, reduced-append, reduced-seam}
+use Rattle.words.specs.ReduceLaws.{reduced-along, reduced-append}
 use Rattle.conjugacy.specs.WordLaws.{~-of-≡, pick-one}
 use Rattle.conjugacy.specs.Turn.{Turns, same, turn, also, Tight, Round}
 
@@ -40,11 +40,6 @@ module _ (Γ : Alphabet) where
   pub turns-pick : {c : Letter} {x r : Word Γ} → Pick Γ c x r → Turns Γ x (r ++ c ∷ [])
   turns-pick p = also (same (pick-front Γ p)) turn
 
-  pub turns-sym : {x y : Word Γ} → Turns Γ x y → Turns Γ y x
-  turns-sym (same e) = same (~-sym Γ e)
-  turns-sym (turn {a = a} {z = z}) = turns-rotate z (a ∷ [])
-  turns-sym (also s t) = also (turns-sym t) (turns-sym s)
-
   pub turns-length : {x y : Word Γ} → Turns Γ x y → length x ≡ length y
   turns-length (same e) = ~-length Γ e
   turns-length (turn {a = a} {z = z}) = omega (arith, length-append z (a ∷ []))
@@ -58,9 +53,6 @@ module _ (Γ : Alphabet) where
 
   pub round-reduced : (x : Word Γ) → Round Γ x → Reduced Γ x
   round-reduced x r = r x (turns-refl x)
-
-  pub round-tight : (x : Word Γ) → Round Γ x → Tight Γ x
-  round-tight x r c s p = reduced-seam Γ s (c ∷ []) (r (s ++ c ∷ []) (turns-pick p)) c ([], here)
 
   pub tight-along : {x y : Word Γ} → x ~ y → Tight Γ x → Tight Γ y
   tight-along e t c r p f =

@@ -1,8 +1,8 @@
--- Laws of a plan's word: products, reversal, undoing and length, and that its letters are commands if the plan passes.
+-- Laws of a plan's word: products, undoing and length, and that its letters are commands if the plan passes.
 use Prim.Native.Nat.{ℕ, suc, _≤_}
 use mathlib.Core.Path.{_≡_, refl, sym, _∙_, ap}
 use mathlib.Core.Bool.{Bool, true, false}
-use mathlib.Core.List.{List, [], _∷_, _++_, reverseAux}
+use mathlib.Core.List.{List, [], _∷_, _++_}
 use native.Mathlib.Omega.{arith}
 use lib.ListN.{length}
 use lib.Dec.{eqb}
@@ -39,16 +39,6 @@ letters-append (b ∷ v) w = go (eqb b 0) (letters-append v w)
     go true e = e
     go false e = ap (λ (x : List ℕ). b ∷ x) e
 
-pub letters-onto : (v w : List ℕ) → letters (reverseAux v w) ≡ reverseAux (letters v) (letters w)
-unfolding letters letters-step
-letters-onto [] w = refl
-letters-onto (b ∷ v) w = letters-onto v (b ∷ w) ∙ go (eqb b 0)
-  where
-    go : (t : Bool)
-        → reverseAux (letters v) (letters-step t b (letters w)) ≡ reverseAux (letters-step t b (letters v)) (letters w)
-    go true = refl
-    go false = refl
-
 pub letters-length : (v : List ℕ) → length (letters v) ≤ length v
 unfolding letters letters-step
 letters-length [] = omega arith
@@ -67,7 +57,7 @@ letters-commands n (b ∷ v) h = go (eqb b 0) refl (letters-commands n v (h .1))
     go true e k = k
     go false e k = (passes-command n b (h .0) e, k)
 
--- its commands are among 1 to N
+-- the commands of such a word are among 1 to N
 pub commands-range : (n : ℕ) (x : List ℕ) → n ≤ 24 → Commands n x → All (λ a. (1 ≤ commandOf a) × (commandOf a ≤ n)) x
 commands-range n x l h = all-map (λ a e. command-range n a (omega arith) e) x h
 

@@ -41,11 +41,6 @@ pub all-map : {A : Type 0} {P Q : A → Type 0} → ((a : A) → P a → Q a) �
 all-map f [] h = tt
 all-map f (a ∷ w) h = (f a (h .0), all-map f w (h .1))
 
--- whatever holds of every element holds of each of any list
-pub all-every : {A : Type 0} (P : A → Type 0) → ((a : A) → P a) → (w : List A) → All P w
-all-every P f [] = tt
-all-every P f (a ∷ w) = (f a, all-every P f w)
-
 module _ (Γ : Alphabet) (P : Γ .Letter → Type 0) where
   pub all-pick : {c : Γ .Letter} {w r : Word Γ} → Pick Γ c w r → All P w → P c × All P r
   all-pick here h = h

@@ -1,7 +1,7 @@
 -- Laws of equality in the group, of undoing a word and of conjugating by one.
 use Prim.Native.Nat.{_+_}
 use mathlib.Core.Path.{_≡_, refl, sym, _∙_, ap, subst}
-use mathlib.Core.List.{[], _∷_, _++_, reverse, reverseAux, append-nil, append-assoc, map}
+use mathlib.Core.List.{[], _∷_, _++_, reverse, reverseAux, append-nil, append-assoc}
 use lib.ListN.{length}
 use native.Mathlib.Omega.{arith}
 use Rattle.words.specs.Alphabet.{Alphabet, Word, dep}
@@ -103,11 +103,6 @@ module _ (Γ : Alphabet) where
   undo-length [] v = omega arith
   undo-length (a ∷ u) v = omega (arith, undo-length u (inv a ∷ v))
 
-  pub undo-map : (u v : Word Γ) → undo Γ u v ≡ reverseAux (map inv u) v
-  unfolding undo
-  undo-map [] v = refl
-  undo-map (a ∷ u) v = undo-map u (inv a ∷ v)
-
   -- undoing respects swaps and equality, on both sides
   pub ~-undo-onto : (u : Word Γ) {v w : Word Γ} → v ~ w → undo Γ u v ~ undo Γ u w
   unfolding undo
@@ -198,11 +193,6 @@ module _ (Γ : Alphabet) where
       (then (≈-of-≡ (sym (append-assoc x u (conj Γ u y))))
       (then (≈-after (conj-swap u x (≈-refl _)) (conj Γ u y))
       (≈-of-≡ (append-assoc u (conj Γ u x) (conj Γ u y)))))))
-
-  -- independence of a word, its letters or the letter undone
-  pub apart-inv : (c : Letter) (w : Word Γ) → Apart Γ c w → Apart Γ (inv c) w
-  apart-inv c [] k = tt
-  apart-inv c (b ∷ w) k = (dep-inv c b ∙ k .0, apart-inv c w (k .1))
 
   pub apart-undo : (c : Letter) (u v : Word Γ) → Apart Γ c u → Apart Γ c v → Apart Γ c (undo Γ u v)
   unfolding undo

@@ -1,21 +1,20 @@
--- Laws of stacks: swaps keep every stack, a bead that is no blank at the front of a stack is a letter that can come
--- first, and words with equal stacks are equal up to swaps.
+-- Laws of stacks: swaps keep every stack, and a bead that is no blank at the front of a stack is a letter that can come
+-- first.
 use Prim.Native.Nat.{ℕ, _≤_}
 use native.Mathlib.Omega.{arith}
 use mathlib.Core.Path.{_≡_, refl, sym, _∙_, ap, subst}
 use mathlib.Core.Logic.{_⊎_, inl, inr}
 use mathlib.Core.Bool.{Bool, true, false, true≢false}
 use mathlib.Core.List.{[], _∷_, _++_, nil≢cons, head-eq-of-cons-eq, tail-eq-of-cons-eq}
-use mathlib.Core.List.{append-nil, append-assoc, append-cancel-left}
+use mathlib.Core.List.{append-nil, append-assoc}
 use mathlib.Core.List.{reverse, reverseAux, reverseAux-eq, reverse-append, reverse-reverse}
 use lib.ListN.{length, length-append}
 use lib.Dec.{eqb}
 use borrow.Author.Tests.{eqb-true, eqb-false, eq-eqb}
-use Rattle.words.specs.All.{All, all-pick}
 use Rattle.words.specs.Alphabet.{Alphabet, Word, dep}
 use Rattle.words.specs.Trace as Trace
 use Rattle.words.specs.Trace.{Pick, here, there, First, done, cons, swap, next}
-use Rattle.words.specs.TraceLaws.{dep-sym, dep-cmd, ~-sym, pick-front}
+use Rattle.words.specs.TraceLaws.{dep-sym, dep-cmd, pick-front}
 use Rattle.words.specs.Stack as Stack
 
 module _ (Γ : Alphabet) (blank : Γ .Letter) where
@@ -132,11 +131,6 @@ module _ (Γ : Alphabet) (blank : Γ .Letter) where
   unfolding Stack.proj
   proj-pick k p = proj-along k (pick-front Γ p)
 
-  pub proj-rest : (k : ℕ) (u : Word Γ) {c : Letter} {w r : Word Γ} → Pick Γ c w r
-      → proj k (c ∷ u) ≡ proj k w → proj k u ≡ proj k r
-  unfolding Stack.proj
-  proj-rest k u {c} {w} {r} p e = append-cancel-left (mark k c) (proj k u) (proj k r) (e ∙ proj-pick k p)
-
   -- a letter that can come first is at the front of its command's stack
   pub proj-first : {c : Letter} {w r : Word Γ} → Pick Γ c w r → proj (cmd c) w ≡ c ∷ proj (cmd c) r
   proj-first {c} {w} {r} p = proj-pick (cmd c) p ∙ ap (λ (x : Word Γ). x ++ proj (cmd c) r) (mark-own c)
@@ -194,17 +188,3 @@ module _ (Γ : Alphabet) (blank : Γ .Letter) where
   -- read from the bottom up, the stacks of z are those of the word in its own order
   pub stack-read : (k : ℕ) (z : Word Γ) → reverse (proj k z) ≡ proj k (reverse z)
   stack-read k z = sym (proj-reverse k z)
-
-  -- words without blanks whose stacks agree, at every command of which a given property holds, agree up to swaps
-  pub proj-exact-on : (Q : ℕ → Type 0) (u v : Word Γ) → NoBlank u
-      → All (λ b. Q (cmd b)) u → All (λ b. Q (cmd b)) v
-      → ((k : ℕ) → Q k → proj k u ≡ proj k v) → u ~ v
-  unfolding Stack.proj
-  proj-exact-on Q [] [] n g h e = done
-  proj-exact-on Q [] (b ∷ v) n g h e = absurd (nil≢cons (e (cmd b) (h .0) ∙ proj-first (here {w = v})))
-  proj-exact-on Q (a ∷ u) v n g h e =
-      let s : proj (cmd a) v ≡ a ∷ proj (cmd a) u = sym (e (cmd a) (g .0)) ∙ proj-first (here {w = u}) in
-      let (t, (r, p)) = proj-front (cmd a) v s (n .0) in
-      let same : (k : ℕ) → Q k → proj k u ≡ proj k r = λ k q. proj-rest k u p (e k q) in
-      let f : u ~ r = proj-exact-on Q u r (n .1) (g .1) (all-pick Γ (λ b. Q (cmd b)) p h .1) same in
-      next (cons f) (~-sym Γ (pick-front Γ p))

@@ -148,10 +148,6 @@ module _ (Γ : Alphabet) where
   Apart c [] = Unit {0}
   Apart c (b ∷ w) = (dep Γ c b ≡ false) × Apart c w
 
-  pub apart-append : (c : Letter) (v w : Word Γ) → Apart c v → Apart c w → Apart c (v ++ w)
-  apart-append c [] w p q = q
-  apart-append c (b ∷ v) w p q = (p .0, apart-append c v w (p .1) q)
-
   -- of a product, its two factors
   pub apart-factors : (c : Letter) (v w : Word Γ) → Apart c (v ++ w) → Apart c v × Apart c w
   apart-factors c [] w p = (tt, p)
