@@ -1,15 +1,15 @@
 // What the library answers.
 
 use crate::solver::verdict;
-use calls::Equality;
-use calls::LeadIn;
-use calls::Loops;
-use calls::Written;
+use cases_solver::Word;
+use cases_solver::at;
+use cases_solver::blank;
+use cases_solver::with;
 use refusal::Refusal;
-use rewriting::Word;
-use rewriting::at;
-use rewriting::blank;
-use rewriting::with;
+use spec::Equality;
+use spec::LeadIn;
+use spec::Loops;
+use spec::Written;
 
 fn refused(refusal: Refusal) -> Word {
     let reason = refusal.reason;

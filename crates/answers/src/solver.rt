@@ -1,12 +1,12 @@
 // What the solver answers: a second opinion that knows nothing of the library but the specification.
 
+use cases_solver::Word;
+use cases_solver::blank;
+use cases_solver::normal_form;
+use cases_solver::same;
+use cases_solver::with;
 use conjugating::leads;
 use faults::or;
-use rewriting::Word;
-use rewriting::blank;
-use rewriting::normal_form;
-use rewriting::same;
-use rewriting::with;
 
 pub fn verdict(number: u8) -> Word {
     with(blank(), 0, number)

@@ -1,10 +1,10 @@
 // The calls as the console makes them from C, over byte slices: each a pointer and a length. The answer is a number,
-// which calls/specs/Codes.antt gives for each case of a call's answer.
+// which spec/specs/Codes.antt gives for each case of a call's answer.
 
 ghost use mathlib.Core.Path.{_≡_};
-ghost use Rattle.calls.specs.Codes.{lengthCode, equalCode, LoopedCode, checkCode};
-ghost use Rattle.calls.specs.Calls.{normalFormAnswer, normalFormArea, equalAnswer};
-ghost use Rattle.calls.specs.Loops.{checkAnswer, checkArea0, checkArea1};
+ghost use Rattle.spec.specs.Codes.{lengthCode, equalCode, LoopedCode, checkCode};
+ghost use Rattle.spec.specs.Calls.{normalFormAnswer, normalFormArea, equalAnswer};
+ghost use Rattle.spec.specs.Loops.{checkAnswer, checkArea0, checkArea1};
 
 #[no_mangle]
 pub extern "C" fn busplan_normal_form(catalogue: &[u8], plan: &[u8], area: &mut [u8]) -> i64
@@ -13,14 +13,14 @@ pub extern "C" fn busplan_normal_form(catalogue: &[u8], plan: &[u8], area: &mut 
     ensures bytes { λ r. ⌜ now (area .exit)
         ≡ normalFormArea (now (catalogue .entry)) (now (plan .entry)) (now (area .entry)) ⌝ }
 {
-    codes::length_code(crate::normal_form(catalogue, plan, area))
+    call_codes::length_code(crate::normal_form(catalogue, plan, area))
 }
 
 #[no_mangle]
 pub extern "C" fn busplan_equal(catalogue: &[u8], v: &[u8], w: &[u8]) -> i64
     ensures { λ r. ⌜ r ≡ equalCode (equalAnswer (now (catalogue .entry)) (now (v .entry)) (now (w .entry))) ⌝ }
 {
-    codes::equal_code(crate::equal(catalogue, v, w))
+    call_codes::equal_code(crate::equal(catalogue, v, w))
 }
 
 #[no_mangle]
@@ -28,7 +28,7 @@ pub extern "C" fn busplan_loops(catalogue: &[u8], v: &[u8], w: &[u8], area: &mut
     ensures { λ r. ⌜ LoopedCode (now (catalogue .entry)) (now (v .entry)) (now (w .entry)) (now (area .entry)) r
         (now (area .exit)) ⌝ }
 {
-    codes::loops_code(crate::loops(catalogue, v, w, area))
+    call_codes::loops_code(crate::loops(catalogue, v, w, area))
 }
 
 #[no_mangle]
@@ -47,5 +47,5 @@ pub extern "C" fn busplan_lead_in_check(
     ensures bytes1 { λ r. ⌜ now (area1 .exit) ≡ checkArea1 (now (catalogue .entry)) (now (v .entry)) (now (w .entry))
         (now (u .entry)) (now (area0 .entry)) (now (area1 .entry)) ⌝ }
 {
-    codes::check_code(crate::lead_in_check(catalogue, v, w, u, area0, area1))
+    call_codes::check_code(crate::lead_in_check(catalogue, v, w, u, area0, area1))
 }

@@ -1,12 +1,12 @@
 // The calls on bus plans that are open to callers, each from a crate of its own, and the functions for callers from C.
 // A call takes any bytes as catalogue and plans and answers with a result or with exactly one refusal of document 01's
-// table; a refusal changes no byte of an area. The crate calls defines what each call answers (specs/Calls.antt) and
+// table; a refusal changes no byte of an area. The crate spec defines what each call answers (specs/Calls.antt) and
 // shows what that is worth (specs/Demands.antt).
 
 mod console;
 
-pub use equality::equal;
-pub use forming::core;
-pub use forming::normal_form;
-pub use leadcheck::lead_in_check;
-pub use looping::loops;
+pub use call_equal::equal;
+pub use call_forms::core;
+pub use call_forms::normal_form;
+pub use call_lead_in_check::lead_in_check;
+pub use call_loops::loops;

@@ -4,8 +4,8 @@ use answers::checked;
 use answers::compared;
 use answers::joined;
 use answers::written;
+use cases_solver::Word;
 use conjugating::leads;
-use rewriting::Word;
 
 fn normal_form(c: &[u8], plan: &[u8], area: &mut [u8]) -> Word {
     let answer = busplan::normal_form(c, plan, area);

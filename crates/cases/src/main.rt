@@ -1,6 +1,6 @@
 // The bench cases of document 01, its edges and the slips seen on the bench, read as a table from standard input, then
 // every small plan under K, put to the library and to a solver written independently of it. A line a case: what the
-// library says, then what the solver says. The crate questions says what a line of the table looks like.
+// library says, then what the solver says. The crate cases_table says what a line of the table looks like.
 
 mod ask;
 
@@ -9,16 +9,16 @@ ghost use mathlib.Core.Path.{_≡_};
 ghost use lib.ListN.{length};
 ghost use Rattle.io.specs.Counts.{Counts};
 use answers::solved;
-use questions::AREA;
-use questions::CATALOGUE;
-use questions::NAME;
-use questions::U;
-use questions::V;
-use questions::W;
-use questions::call;
-use questions::part;
-use questions::small;
-use rewriting::at;
+use cases_solver::at;
+use cases_table::AREA;
+use cases_table::CATALOGUE;
+use cases_table::NAME;
+use cases_table::U;
+use cases_table::V;
+use cases_table::W;
+use cases_table::call;
+use cases_table::part;
+use cases_table::small;
 
 fn blank() -> [u8; 1100]
     ensures { λ r. ⌜ 1100 ≡ length r ⌝ }
@@ -43,10 +43,10 @@ fn put(q: &[u8]) -> bool {
     let w = part(q, W);
     let u = part(q, U);
     let mut area = blank();
-    let n = within(questions::size(q, AREA), &area);
+    let n = within(cases_table::size(q, AREA), &area);
     let theirs = solved(call(q), c, v, w, u, n);
     let ours = ask::asked(call(q), c, v, w, u, &mut area[..n]);
-    report::answers(part(q, NAME), call(q), ours, theirs)
+    cases_report::answers(part(q, NAME), call(q), ours, theirs)
 }
 
 // Every line of the table.
@@ -55,11 +55,11 @@ fn table(text: &[u8]) {
     let mut cases: usize = 0;
     let mut start: usize = 0;
     while start < 4096 && at(text, start) != 0 {
-        agree += put(&questions::read(text, start)) as usize;
+        agree += put(&cases_table::read(text, start)) as usize;
         cases += 1;
-        start = questions::end(text, start) + 1;
+        start = cases_table::end(text, start) + 1;
     }
-    report::count(agree, cases, b" cases agree\n");
+    cases_report::count(agree, cases, b" cases agree\n");
 }
 
 // Plan number p of four bytes, in normal form and core, or the loops of pair number p of two bytes each.
@@ -86,12 +86,12 @@ fn main() {
     let mut text = io::buffer();
     let n = io::read_full(0, &mut text);
     table(&text[..n]);
-    report::count(
+    cases_report::count(
         every(false),
         6561,
         b" plans of 4 bytes agree, in normal form and core\n",
     );
-    report::count(
+    cases_report::count(
         every(true),
         6561,
         b" pairs of plans of 2 bytes agree, joined or apart\n",

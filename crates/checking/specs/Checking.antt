@@ -6,11 +6,11 @@ use mathlib.Core.Bool.{true}
 use mathlib.Core.List.{List, _++_}
 use mathlib.Core.Logic.{_↔_}
 use lib.ListN.{length, take}
-use Rattle.catalogue.specs.Catalogue.{commands}
-use Rattle.catalogue.specs.Conflict.{Conflicts}
-use Rattle.plan.specs.Area.{StartsWith}
-use Rattle.plan.specs.Plan.{Passing}
-use Rattle.plan.specs.Letters.{normalForm}
+use Rattle.input_catalogue.specs.Catalogue.{commands}
+use Rattle.input_catalogue.specs.Conflict.{Conflicts}
+use Rattle.input_plan.specs.Area.{StartsWith}
+use Rattle.input_plan.specs.Plan.{Passing}
+use Rattle.input_plan.specs.Letters.{normalForm}
 use Rattle.checking.specs.declared.Both.{Both}
 
 -- the row begins with both words, up to `end`

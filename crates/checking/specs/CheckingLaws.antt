@@ -6,15 +6,15 @@ use mathlib.Core.List.{List, _++_}
 use mathlib.Core.Logic.{_↔_}
 use native.Mathlib.Omega.{arith}
 use lib.ListN.{length, take, length-append}
-use Rattle.words.specs.All.{all-append}
-use Rattle.plan.specs.Area.{StartsWith}
-use Rattle.plan.specs.AreaLaws.{starts-take}
-use Rattle.plan.specs.Letters.{normalForm}
-use Rattle.plan.specs.LettersLaws.{letters-length}
-use Rattle.reduction.specs.Reducing.{Given}
-use Rattle.wordform.specs.Forming.{Formable}
-use Rattle.row.specs.Row.{Appended}
-use Rattle.row.specs.RowLaws.{appended-length, appended-take}
+use Rattle.theory_words.specs.All.{all-append}
+use Rattle.input_plan.specs.Area.{StartsWith}
+use Rattle.input_plan.specs.AreaLaws.{starts-take}
+use Rattle.input_plan.specs.Letters.{normalForm}
+use Rattle.input_plan.specs.LettersLaws.{letters-length}
+use Rattle.long_reduction.specs.Reducing.{Given}
+use Rattle.long_wordform.specs.Forming.{Formable}
+use Rattle.array_row.specs.Row.{Appended}
+use Rattle.array_row.specs.RowLaws.{appended-length, appended-take}
 use Rattle.checking.specs.Checking.{Joined, Factors, Checkable, CheckedIn}
 
 -- two words appended, the second behind the first

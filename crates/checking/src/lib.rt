@@ -1,9 +1,9 @@
 // The lead-in check of plans that have passed their checks: the normal forms of v·u and u·w, and whether they are the
 // same.
 
-use row::append;
-use row::same_bytes;
-use wordform::form;
+use array_row::append;
+use array_row::same_bytes;
+use long_wordform::form;
 ghost use Prim.Native.Nat.{ℕ, _+_, _≤_};
 ghost use mathlib.Core.List.{List};
 ghost use lib.ListN.{length};
@@ -50,10 +50,10 @@ fn product(first: &[u8], second: &[u8], conflicts: &[[u16; 24]; 24], area: &mut 
         (now (area .entry)) (now (area .exit)) r ⌝ }
 {
     if first.len() + second.len() <= 2048 {
-        let mut row = row::short_row();
+        let mut row = array_row::short_row();
         return product_in(first, second, conflicts, &mut row, area);
     }
-    let mut row = row::blank_row();
+    let mut row = array_row::blank_row();
     product_in(first, second, conflicts, &mut row, area)
 }
 

@@ -3,15 +3,15 @@
 // and no rings.
 
 ghost use Prim.Native.Nat.{_<_, _≤_};
-use rewriting::Word;
-use rewriting::at;
-use rewriting::letter;
-use rewriting::letters;
-use rewriting::normal_form;
-use rewriting::numbered;
-use rewriting::same;
-use rewriting::undo;
-use rewriting::with;
+use cases_solver::Word;
+use cases_solver::at;
+use cases_solver::letter;
+use cases_solver::letters;
+use cases_solver::normal_form;
+use cases_solver::numbered;
+use cases_solver::same;
+use cases_solver::undo;
+use cases_solver::with;
 
 // The normal form of: undo of a, the normal form x, a.
 fn conjugate(c: &[u8], x: Word, a: u8) -> Word {

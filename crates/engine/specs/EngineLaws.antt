@@ -5,21 +5,21 @@ use mathlib.Core.List.{List, [], reverse, reverse-reverse}
 use mathlib.Core.Bool.{true}
 use native.Mathlib.Omega.{arith}
 use lib.ListN.{length, length-reverse}
-use Rattle.words.specs.All.{All, all-map, all-reverse}
-use Rattle.words.specs.Group as Group
-use Rattle.words.specs.GroupLaws.{≈-reverse}
-use Rattle.words.specs.ReduceLaws.{reduce-≈, reduce-length}
-use Rattle.words.specs.LetterLaws.{all-reduce}
-use Rattle.catalogue.specs.Catalogue.{commands}
-use Rattle.plan.specs.Plan.{isCommand}
-use Rattle.plan.specs.Letters.{letters, alphabet}
-use Rattle.plan.specs.LettersLaws.{letters-commands, letters-length}
-use Rattle.plan.specs.CommandLaws.{command-range}
-use Rattle.plan.specs.Lettered.{Lettered}
-use Rattle.piling.specs.Piling.{Piled}
-use Rattle.piling.specs.Pile.{Given, reduced}
-use Rattle.piling.specs.BlankLaws.{piled-blank}
-use Rattle.beads.specs.Blank.{blankRows, blankHeights}
+use Rattle.theory_words.specs.All.{All, all-map, all-reverse}
+use Rattle.theory_words.specs.Group as Group
+use Rattle.theory_words.specs.GroupLaws.{≈-reverse}
+use Rattle.theory_words.specs.ReduceLaws.{reduce-≈, reduce-length}
+use Rattle.theory_words.specs.LetterLaws.{all-reduce}
+use Rattle.input_catalogue.specs.Catalogue.{commands}
+use Rattle.input_plan.specs.Plan.{isCommand}
+use Rattle.input_plan.specs.Letters.{letters, alphabet}
+use Rattle.input_plan.specs.LettersLaws.{letters-commands, letters-length}
+use Rattle.input_plan.specs.CommandLaws.{command-range}
+use Rattle.input_plan.specs.Lettered.{Lettered}
+use Rattle.piling_stacks.specs.Piling.{Piled}
+use Rattle.piling_stacks.specs.Pile.{Given, reduced}
+use Rattle.piling_stacks.specs.BlankLaws.{piled-blank}
+use Rattle.array_counts.specs.Blank.{blankRows, blankHeights}
 use Rattle.engine.specs.Passed.{Passed}
 
 module _ {c : List ℕ} {conflicts : List (List ℕ)} {v : List ℕ} (p : Passed c conflicts v) where

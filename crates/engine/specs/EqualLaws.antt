@@ -3,14 +3,14 @@ use Prim.Native.Nat.{ℕ}
 use mathlib.Core.Path.{_≡_}
 use mathlib.Core.List.{List, reverse, reverse-reverse}
 use mathlib.Core.Logic.{_↔_}
-use Rattle.words.specs.Group.{_≈_, then, back}
-use Rattle.words.specs.GroupLaws.{≈-reverse}
-use Rattle.words.specs.ReduceLaws.{reduce-≈, reduce-reduced}
-use Rattle.words.specs.NormalLaws.{nf-complete, nf-sound}
-use Rattle.plan.specs.Letters.{letters, alphabet, normalForm}
-use Rattle.piling.specs.Piling.{Counted}
-use Rattle.piling.specs.Pile.{reduced}
-use Rattle.comparing.specs.Comparing.{Opposed}
+use Rattle.theory_words.specs.Group.{_≈_, then, back}
+use Rattle.theory_words.specs.GroupLaws.{≈-reverse}
+use Rattle.theory_words.specs.ReduceLaws.{reduce-≈, reduce-reduced}
+use Rattle.theory_words.specs.NormalLaws.{nf-complete, nf-sound}
+use Rattle.input_plan.specs.Letters.{letters, alphabet, normalForm}
+use Rattle.piling_stacks.specs.Piling.{Counted}
+use Rattle.piling_stacks.specs.Pile.{reduced}
+use Rattle.piling_equal.specs.Comparing.{Opposed}
 use Rattle.engine.specs.Passed.{Passed}
 
 pub passed-opposed : {c w : List ℕ} {conflicts rows : List (List ℕ)} {heights : List ℕ} {n : ℕ} (v : List ℕ)

@@ -2,9 +2,9 @@
 use Prim.Native.Nat.{ℕ, _≤_}
 use mathlib.Core.List.{List}
 use lib.ListN.{length}
-use Rattle.catalogue.specs.Catalogue.{commands}
-use Rattle.catalogue.specs.Conflict.{Conflicts}
-use Rattle.plan.specs.Plan.{Passing}
+use Rattle.input_catalogue.specs.Catalogue.{commands}
+use Rattle.input_catalogue.specs.Conflict.{Conflicts}
+use Rattle.input_plan.specs.Plan.{Passing}
 
 -- the table holds the conflicts of catalogue c, and the plan passes lines 7 and 8
 pub record Passed (c : List ℕ) (conflicts : List (List ℕ)) (plan : List ℕ) : Type 0 where

@@ -5,8 +5,8 @@ ghost use mathlib.Core.Path.{_≡_};
 ghost use mathlib.Core.Bool.{true};
 ghost use mathlib.Core.List.{List};
 ghost use mathlib.Core.Logic.{_↔_};
-ghost use Rattle.beads.specs.Blank.{blankRows, blankHeights};
-ghost use Rattle.plan.specs.Letters.{normalForm};
+ghost use Rattle.array_counts.specs.Blank.{blankRows, blankHeights};
+ghost use Rattle.input_plan.specs.Letters.{normalForm};
 ghost use Rattle.engine.specs.Passed.{Passed};
 
 // Whether two plans have the same normal form: v is piled up in rows with no bead, and w is undone on it. The rows are
@@ -24,8 +24,8 @@ fn same(
         → Passed c (now (conflicts .entry)) (now (w .entry))
         → (r ≡ true) ↔ (normalForm c (now (v .entry)) ≡ normalForm c (now (w .entry)))) ⌝ }
 {
-    let n = piling::pile(v, conflicts, rows, heights);
-    comparing::equals(w, conflicts, rows, heights, n)
+    let n = piling_stacks::pile(v, conflicts, rows, heights);
+    piling_equal::equals(w, conflicts, rows, heights, n)
 }
 
 // Whether two plans have the same normal form. The shorter is piled up: where the lengths differ much, undoing the
@@ -36,8 +36,8 @@ pub fn equal(v: &[u8], w: &[u8], conflicts: &[[u16; 24]; 24]) -> bool
         → Passed c (now (conflicts .entry)) (now (w .entry))
         → (r ≡ true) ↔ (normalForm c (now (v .entry)) ≡ normalForm c (now (w .entry)))) ⌝ }
 {
-    let mut rows = beads::blank_rows();
-    let mut heights = beads::blank_heights();
+    let mut rows = array_counts::blank_rows();
+    let mut heights = array_counts::blank_heights();
     if w.len() < v.len() {
         return same(w, v, conflicts, &mut rows, &mut heights);
     }

@@ -2,12 +2,12 @@
 // specification's table. A refusal is an answer of 64 bytes with its number at place 63, its plan at 62 and its place
 // at 60 and 61, high byte first; the number is 0 where nothing is wrong.
 
-use rewriting::Word;
-use rewriting::at;
-use rewriting::blank;
-use rewriting::letter;
-use rewriting::walk;
-use rewriting::with;
+use cases_solver::Word;
+use cases_solver::at;
+use cases_solver::blank;
+use cases_solver::letter;
+use cases_solver::walk;
+use cases_solver::with;
 
 pub fn refusal(number: u8, plan: u8, place: usize) -> Word {
     let high = with(blank(), 60, (place / 256 % 256) as u8);

@@ -4,13 +4,13 @@ use native.Mathlib.Omega.{arith}
 use mathlib.Core.Path.{_≡_}
 use mathlib.Core.List.{List}
 use lib.ListN.{length, take, length-take}
-use Rattle.words.specs.TraceLaws.{~-length}
-use Rattle.conjugacy.specs.CoreLaws.{core-length}
-use Rattle.plan.specs.AreaLaws.{starts-take}
-use Rattle.plan.specs.Letters.{letters, alphabet}
-use Rattle.coring.specs.Coring.{CoreOf}
-use Rattle.crossing.specs.Stripped.{Stripped}
-use Rattle.crossing.specs.StrippedLaws.{form-~}
+use Rattle.theory_words.specs.TraceLaws.{~-length}
+use Rattle.theory_conjugacy.specs.CoreLaws.{core-length}
+use Rattle.input_plan.specs.AreaLaws.{starts-take}
+use Rattle.input_plan.specs.Letters.{letters, alphabet}
+use Rattle.piling_form.specs.Coring.{CoreOf}
+use Rattle.conjugacy_of_plans.specs.Stripped.{Stripped}
+use Rattle.conjugacy_of_plans.specs.StrippedLaws.{form-~}
 
 module _ {c v core lead core′ lead′ : List ℕ} {n m : ℕ} (k : CoreOf c v core lead core′ lead′ n m) where
   pub stripped : Stripped c v (take n core′) (take m lead′)

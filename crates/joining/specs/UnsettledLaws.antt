@@ -6,21 +6,21 @@ use mathlib.Core.Bool.{true, false}
 use mathlib.Core.List.{List, [], _∷_, List·Memᴰ·head, List·Memᴰ·tail}
 use mathlib.Core.Option.{none}
 use lib.ListN.{length}
-use Rattle.words.specs.All.{All}
-use Rattle.conjugacy.specs.Core.{core}
-use Rattle.conjugacy.specs.CoreLaws.{core-all}
-use Rattle.conjugacy.specs.Part.{commands, apexes, part}
-use Rattle.conjugacy.specs.Settle.{split, settled}
-use Rattle.conjugacy.specs.AscendingLaws.{_∈_, Within}
-use Rattle.conjugacy.specs.CommandLaws.{all-occurs, commands-bounded}
-use Rattle.conjugacy.specs.PartLaws.{part-occurs, part-connected, apex-occurs}
-use Rattle.conjugacy.specs.RoundLaws.{settled-quiet}
-use Rattle.catalogue.specs.Catalogue as Catalogue
-use Rattle.plan.specs.Plan.{isCommand, Passing}
-use Rattle.plan.specs.Byte.{commandOf}
-use Rattle.plan.specs.Letters.{letters, alphabet}
-use Rattle.plan.specs.LettersLaws.{commands-range, letters-commands}
-use Rattle.calls.specs.Loops.{isEmpty, stillLow, unsettled, unsettledLine}
+use Rattle.theory_words.specs.All.{All}
+use Rattle.theory_conjugacy.specs.Core.{core}
+use Rattle.theory_conjugacy.specs.CoreLaws.{core-all}
+use Rattle.theory_conjugacy.specs.Part.{commands, apexes, part}
+use Rattle.theory_conjugacy.specs.Settle.{split, settled}
+use Rattle.theory_conjugacy.specs.AscendingLaws.{_∈_, Within}
+use Rattle.theory_conjugacy.specs.CommandLaws.{all-occurs, commands-bounded}
+use Rattle.theory_conjugacy.specs.PartLaws.{part-occurs, part-connected, apex-occurs}
+use Rattle.theory_conjugacy.specs.RoundLaws.{settled-quiet}
+use Rattle.input_catalogue.specs.Catalogue as Catalogue
+use Rattle.input_plan.specs.Plan.{isCommand, Passing}
+use Rattle.input_plan.specs.Byte.{commandOf}
+use Rattle.input_plan.specs.Letters.{letters, alphabet}
+use Rattle.input_plan.specs.LettersLaws.{commands-range, letters-commands}
+use Rattle.spec.specs.Loops.{isEmpty, stillLow, unsettled, unsettledLine}
 
 module _ (c : List ℕ) (n : ℕ) (x : List ℕ) (h : All (λ a. (1 ≤ commandOf a) × (commandOf a ≤ n)) x) where
   -- no part has more than n commands

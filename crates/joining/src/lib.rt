@@ -1,13 +1,13 @@
 // The verdict on two plans that have passed their checks, and the lead-in from one to the other.
 
-use coring::form_of;
-use leading::Outcome;
-use ringing::sheet;
+use conjugacy_of_parts::Outcome;
+use conjugacy_ring::sheet;
+use piling_form::form_of;
 use spanning::span;
 ghost use Prim.Native.Nat.{ℕ, _+_, _*_, _≤_};
 ghost use mathlib.Core.List.{List};
 ghost use lib.ListN.{length};
-ghost use Rattle.crossing.specs.Join.{Plans, Told};
+ghost use Rattle.conjugacy_of_plans.specs.Join.{Plans, Told};
 
 // The verdict on two plans that have passed their checks, with so many commands: joined, by a lead-in at the start of
 // the area, or apart.

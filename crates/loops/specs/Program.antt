@@ -6,13 +6,13 @@ use mathlib.Core.List.{List, [], _∷_, _++_}
 use mathlib.Core.Option.{Option, none, some}
 use lib.ListN.{length}
 use Rattle.refusal.specs.Line.{Line, line, Answer, refused, firstLine, orElse}
-use Rattle.conjugacy.specs.Decision.{joined?}
-use Rattle.catalogue.specs.Catalogue.{commands, catalogueLines}
-use Rattle.plan.specs.Plan.{planLines}
-use Rattle.plan.specs.Letters.{letters, alphabet}
-use Rattle.calls.specs.Calls.{planLimit, coreForm}
-use Rattle.calls.specs.Loops.{unsettledLine}
-use Rattle.framing.specs.Framing.{wellFramed, catalogueOf, plan1Of, plan2Of}
+use Rattle.theory_conjugacy.specs.Decision.{joined?}
+use Rattle.input_catalogue.specs.Catalogue.{commands, catalogueLines}
+use Rattle.input_plan.specs.Plan.{planLines}
+use Rattle.input_plan.specs.Letters.{letters, alphabet}
+use Rattle.spec.specs.Calls.{planLimit, coreForm}
+use Rattle.spec.specs.Loops.{unsettledLine}
+use Rattle.loops_framing.specs.Framing.{wellFramed, catalogueOf, plan1Of, plan2Of}
 
 -- the lines that can refuse one plan; the program's own areas are large enough, so line 9 is not among them
 abbrev pub coreLines : List ℕ → List ℕ → List (Option Line)

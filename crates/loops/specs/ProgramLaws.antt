@@ -11,24 +11,24 @@ use borrow.Author.Tests.{le-ltb}
 use Rattle.refusal.specs.Line.{Line, line, lineOf, Answer, refused, given, firstLine, orElse}
 use Rattle.refusal.specs.LineLaws.{none-left, none-right}
 use Rattle.refusal.specs.declared.Refusal.{Refusal}
-use Rattle.conjugacy.specs.Decision.{joined?}
-use Rattle.catalogue.specs.Catalogue.{commands, catalogueLines}
-use Rattle.plan.specs.Plan.{planLines}
-use Rattle.plan.specs.PlanLaws.{lines-pass}
-use Rattle.plan.specs.Letters.{letters, alphabet}
-use Rattle.calls.specs.Answers.{toldWritten, toldLoops}
-use Rattle.calls.specs.Calls.{planLimit, areaLine, normalFormLines, coreForm, coreAnswer}
-use Rattle.calls.specs.CallLaws.{few-commands}
-use Rattle.calls.specs.Loops.{loopsLines, leadInRoom, unsettledLine, Looped, refuses, apart, joined}
-use Rattle.calls.specs.declared.Written.{Written}
-use Rattle.calls.specs.declared.Written.the-variants as written
-use Rattle.calls.specs.declared.Loops.{Loops}
-use Rattle.calls.specs.declared.Loops.the-variants as loops
-use Rattle.framing.specs.Framing.{frame}
-use Rattle.framing.specs.FramingLaws.{badly-tells, well-tells, Laid, laid-catalogue, laid-plan1, laid-plan2}
-use Rattle.framing.specs.declared.Frame.{Frame}
-use Rattle.framing.specs.declared.Frame.the-variants.{Badly, Well}
-use Rattle.framing.specs.declared.Places.{Places}
+use Rattle.theory_conjugacy.specs.Decision.{joined?}
+use Rattle.input_catalogue.specs.Catalogue.{commands, catalogueLines}
+use Rattle.input_plan.specs.Plan.{planLines}
+use Rattle.input_plan.specs.PlanLaws.{lines-pass}
+use Rattle.input_plan.specs.Letters.{letters, alphabet}
+use Rattle.spec.specs.Answers.{toldWritten, toldLoops}
+use Rattle.spec.specs.Calls.{planLimit, areaLine, normalFormLines, coreForm, coreAnswer}
+use Rattle.spec.specs.CallLaws.{few-commands}
+use Rattle.spec.specs.Loops.{loopsLines, leadInRoom, unsettledLine, Looped, refuses, apart, joined}
+use Rattle.spec.specs.declared.Written.{Written}
+use Rattle.spec.specs.declared.Written.the-variants as written
+use Rattle.spec.specs.declared.Loops.{Loops}
+use Rattle.spec.specs.declared.Loops.the-variants as loops
+use Rattle.loops_framing.specs.Framing.{frame}
+use Rattle.loops_framing.specs.FramingLaws.{badly-tells, well-tells, Laid, laid-catalogue, laid-plan1, laid-plan2}
+use Rattle.loops_framing.specs.declared.Frame.{Frame}
+use Rattle.loops_framing.specs.declared.Frame.the-variants.{Badly, Well}
+use Rattle.loops_framing.specs.declared.Places.{Places}
 use Rattle.loops.specs.Program.{
   coreLines,
   programLines,

@@ -1,19 +1,19 @@
 // Reads a catalogue and two plans from standard input and prints whether the two loops are joined, apart or refused.
-// specs/Program.antt says which answer an input gets, crate framing what is well framed, crate listing what is printed.
+// specs/Program.antt says which answer an input gets, crate loops_framing what is well framed, crate loops_listing what is printed.
 
 ghost use mathlib.Core.Path.{_≡_};
 ghost use Prim.Native.Nat.{_≤_};
 ghost use lib.ListN.{length, take};
 ghost use Rattle.refusal.specs.Line.{line, lineOf};
 ghost use Rattle.io.specs.Counts.{Counts};
-ghost use Rattle.listing.specs.Listing.{toldVerdict, Printed};
+ghost use Rattle.loops_listing.specs.Listing.{toldVerdict, Printed};
 ghost use Rattle.loops.specs.Program.{coreVerdict, loopsVerdict, programAnswer};
-use calls::Loops;
-use calls::Written;
-use framing::Frame;
-use listing::Verdict;
+use loops_framing::Frame;
+use loops_listing::Verdict;
 use refusal::Reason;
 use refusal::Refusal;
+use spec::Loops;
+use spec::Written;
 
 // Room for the core of the longest plan.
 fn core_area() -> [u8; 1024]
@@ -73,7 +73,7 @@ fn decide(catalogue: &[u8], v: &[u8], w: &[u8]) -> Verdict
 fn answer(input: &[u8]) -> Verdict
     ensures { λ r. ⌜ toldVerdict r ≡ programAnswer (now (input .entry)) ⌝ }
 {
-    match framing::framed(input) {
+    match loops_framing::framed(input) {
         Frame::Badly => Verdict::Refused(badly_framed()),
         Frame::Well(places) => {
             let first = places.first;
@@ -93,7 +93,7 @@ fn print(input: &[u8], out: &mut [u8]) -> usize
     ensures text { λ r. ⌜ Printed (programAnswer (now (input .entry))) (take r (now (out .exit))) ⌝ }
     ensures room { λ r. ⌜ Counts r (now (out .exit)) ⌝ }
 {
-    listing::put(out, answer(input))
+    loops_listing::put(out, answer(input))
 }
 
 fn main() {

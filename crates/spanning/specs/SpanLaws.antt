@@ -4,9 +4,9 @@ use native.Mathlib.Omega.{arith}
 use native.Mathlib.Nat.{mul-le-mul-right}
 use mathlib.Core.List.{List}
 use lib.ListN.{length}
-use Rattle.plan.specs.LettersLaws.{letters-length}
-use Rattle.crossing.specs.StrippedLaws.{off-length}
-use Rattle.crossing.specs.Join.{Cores, crossRoom}
+use Rattle.input_plan.specs.LettersLaws.{letters-length}
+use Rattle.conjugacy_of_plans.specs.StrippedLaws.{off-length}
+use Rattle.conjugacy_of_plans.specs.Join.{Cores, crossRoom}
 
 module _ {c : List ℕ} {conflicts : List (List ℕ)} {v w x g y h : List ℕ} {n : ℕ}
     (k : Cores c conflicts v w x g y h n) where

@@ -1,8 +1,8 @@
 // The way across two cores, in a row as long as it can be: the verdict, and the lead-in in normal form.
 
-use crossing::cross;
-use leading::Outcome;
-ghost use Rattle.crossing.specs.Join.{Crossable, Crossed};
+use conjugacy_of_parts::Outcome;
+use conjugacy_of_plans::cross;
+ghost use Rattle.conjugacy_of_plans.specs.Join.{Crossable, Crossed};
 
 // Across two cores, with a row of 2,048 bytes.
 fn span_short(
@@ -18,7 +18,7 @@ fn span_short(
     ensures { λ r. ⌜ Crossed (now (conflicts .entry)) (now (x .entry)) (now (g .entry)) (now (y .entry))
         (now (h .entry)) commands (now (area .entry)) r (now (area .exit)) ⌝ }
 {
-    let mut row = row::short_row();
+    let mut row = array_row::short_row();
     cross(x, g, y, h, commands, conflicts, &mut row, area)
 }
 
@@ -36,7 +36,7 @@ fn span_middle(
     ensures { λ r. ⌜ Crossed (now (conflicts .entry)) (now (x .entry)) (now (g .entry)) (now (y .entry))
         (now (h .entry)) commands (now (area .entry)) r (now (area .exit)) ⌝ }
 {
-    let mut row = row::middle_row();
+    let mut row = array_row::middle_row();
     cross(x, g, y, h, commands, conflicts, &mut row, area)
 }
 
@@ -54,7 +54,7 @@ fn span_wide(
     ensures { λ r. ⌜ Crossed (now (conflicts .entry)) (now (x .entry)) (now (g .entry)) (now (y .entry))
         (now (h .entry)) commands (now (area .entry)) r (now (area .exit)) ⌝ }
 {
-    let mut row = row::wide_row();
+    let mut row = array_row::wide_row();
     cross(x, g, y, h, commands, conflicts, &mut row, area)
 }
 
@@ -72,7 +72,7 @@ fn span_long(
     ensures { λ r. ⌜ Crossed (now (conflicts .entry)) (now (x .entry)) (now (g .entry)) (now (y .entry))
         (now (h .entry)) commands (now (area .entry)) r (now (area .exit)) ⌝ }
 {
-    let mut row = row::blank_row();
+    let mut row = array_row::blank_row();
     cross(x, g, y, h, commands, conflicts, &mut row, area)
 }
 

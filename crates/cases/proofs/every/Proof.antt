@@ -1,7 +1,7 @@
 -- `every` is safe and ends: the measure is `6561 - p`, the invariant `count ≤ p`.
 use native.Mathlib.Omega.{arith}
 use Prim.Native.Nat.{_-_, _≤_}
-use Rattle.rewriting.proofs.Flag.{at-most-one}
+use Rattle.cases_solver.proofs.Flag.{at-most-one}
 use borrow.Author.Needs.{needs}
 use Rattle.cases.proofs.every.Statement.{statement}
 use Rattle.cases.proofs.every.Tie as tie

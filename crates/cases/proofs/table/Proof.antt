@@ -1,7 +1,7 @@
 -- `table` is safe and ends: the measure is `4096 - start`; of the cases, at most `start`, no more agree than there are.
 use native.Mathlib.Omega.{arith}
 use Prim.Native.Nat.{_-_, _≤_}
-use Rattle.rewriting.proofs.Flag.{at-most-one}
+use Rattle.cases_solver.proofs.Flag.{at-most-one}
 use borrow.Author.Needs.{needs}
 use Rattle.cases.proofs.table.Statement.{statement}
 use Rattle.cases.proofs.table.Tie as tie

@@ -3,7 +3,7 @@
 use mathlib.Core.Path.{sym}
 use borrow.Author.Needs.{needs}
 use lib.Seq.{length-take-le}
-use Rattle.plan.specs.AreaLaws.{starts-fits}
+use Rattle.input_plan.specs.AreaLaws.{starts-fits}
 use Rattle.checking.specs.CheckingLaws.{checkable-first, checkable-second, checked-in}
 use Rattle.checking.proofs.check.Statement.{statement}
 use Rattle.checking.proofs.check.Tie as tie

@@ -1,8 +1,8 @@
 -- `engine::same` meets its contract.
 use Prim.Native.Nat.{ℕ}
 use mathlib.Core.List.{List}
-use Rattle.piling.specs.Pile.{reduced}
-use Rattle.comparing.specs.Comparing.{Opposed}
+use Rattle.piling_stacks.specs.Pile.{reduced}
+use Rattle.piling_equal.specs.Comparing.{Opposed}
 use Rattle.engine.specs.Passed.{Passed}
 use Rattle.engine.specs.EngineLaws.{passed-given}
 use Rattle.engine.specs.EqualLaws.{passed-opposed, same-normal}

@@ -4,10 +4,10 @@ use mathlib.Core.List.{List}
 use native.Mathlib.Omega.{arith}
 use lib.ListN.{take}
 use borrow.Author.Needs.{needs}
-use Rattle.plan.specs.AreaLaws.{starts-fits, starts-count}
-use Rattle.coring.specs.Coring.{CoreOf}
-use Rattle.coring.specs.CoringLaws.{core-of}
-use Rattle.crossing.specs.Join.{Plans, Cores}
+use Rattle.input_plan.specs.AreaLaws.{starts-fits, starts-count}
+use Rattle.piling_form.specs.Coring.{CoreOf}
+use Rattle.piling_form.specs.CoringLaws.{core-of}
+use Rattle.conjugacy_of_plans.specs.Join.{Plans, Cores}
 use Rattle.spanning.specs.SpanLaws.{cores-room}
 use Rattle.joining.specs.CoresLaws.{stripped, off-count, off-fits}
 use Rattle.joining.proofs.join.Statement.{statement}

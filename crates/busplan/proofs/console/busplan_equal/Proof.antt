@@ -2,7 +2,7 @@
 use mathlib.Core.Path.{_∙_, ap}
 use mir.Syntax.{w64}
 use mir.ValLaws.{toZ-ofZ}
-use Rattle.calls.specs.Codes.{equalCode}
+use Rattle.spec.specs.Codes.{equalCode}
 use borrow.Author.Needs.{needs}
 use Rattle.busplan.proofs.console.busplan_equal.Statement.{statement}
 use Rattle.busplan.proofs.console.busplan_equal.Tie as tie

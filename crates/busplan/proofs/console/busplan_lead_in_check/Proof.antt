@@ -2,7 +2,7 @@
 use mathlib.Core.Path.{_∙_, ap}
 use mir.Syntax.{w64}
 use mir.ValLaws.{toZ-ofZ}
-use Rattle.calls.specs.Codes.{checkCode}
+use Rattle.spec.specs.Codes.{checkCode}
 use borrow.Author.Needs.{needs}
 use Rattle.busplan.proofs.console.busplan_lead_in_check.Statement.{statement}
 use Rattle.busplan.proofs.console.busplan_lead_in_check.Tie as tie

@@ -1,0 +1,32 @@
+-- What a letter of command k + 1 puts on the stack of command j + 1, and how many beads that are.
+use Prim.Native.Nat.{ℕ, _+_}
+use native.Mathlib.Omega.{arith}
+use mathlib.Core.Bool.{Bool, true, false, true≢false}
+use mathlib.Core.Path.{_≡_, sym, _∙_, ap}
+use mathlib.Core.List.{List}
+use Rattle.theory_words.specs.Stack.{mark}
+use Rattle.theory_words.specs.StackLaws.{Marked, marked}
+use Rattle.theory_words.specs.StackLaws as Stack
+use Rattle.input_catalogue.specs.Conflict.{conflict, bit}
+use Rattle.input_catalogue.specs.ConflictLaws.{conflict-refl, conflict-sym}
+use Rattle.input_plan.specs.Byte.{commandOf}
+use Rattle.input_plan.specs.Letters.{alphabet}
+use Rattle.array_counts.specs.BeadsLaws.{Meets, aside, own, other}
+
+-- the line of command k + 1 tells how many
+pub meets-line : (c : List ℕ) (k b j n : ℕ) → commandOf b ≡ k + 1 → n ≡ bit (conflict c (k + 1) (j + 1))
+    → Meets k b j n (mark (alphabet c) 0 (j + 1) b)
+meets-line c k b j n e f = go (marked (alphabet c) 0 (j + 1) b)
+  where
+    count : (t : Bool) → conflict c (j + 1) (commandOf b) ≡ t → n ≡ bit t
+    count t q = f ∙ ap bit (conflict-sym c (k + 1) (j + 1) ∙ ap (conflict c (j + 1)) (sym e) ∙ q)
+
+    go : {m : List ℕ} → Marked (alphabet c) 0 (j + 1) b m → Meets k b j n m
+    go (Stack.apart q) =
+        let clash : j ≡ k → conflict c (j + 1) (j + 1) ≡ false
+        = λ s. ap (λ (i : ℕ). conflict c (j + 1) (i + 1)) s ∙ ap (conflict c (j + 1)) (sym e) ∙ q in
+        rw (count false q) (aside (λ s. true≢false (sym (conflict-refl c (j + 1)) ∙ clash s)))
+    go (Stack.own q) =
+        let s : j ≡ k = omega arith in
+        rw (count true (ap (conflict c (j + 1)) q ∙ conflict-refl c (j + 1)), s) own
+    go (Stack.other q o) = rw (count true q) (other (λ s. o (e ∙ ap (λ (i : ℕ). i + 1) (sym s))))

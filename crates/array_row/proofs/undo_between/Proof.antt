@@ -1,0 +1,90 @@
+-- `array_row::undo_between` meets its contract. The loop's invariant: what is left between i and j, undone there, is what is
+-- to be. Assumes nothing.
+use Prim.Native.Nat.{_-_}
+use mathlib.Core.Path.{_∙_}
+use native.Mathlib.Omega.{arith}
+use lib.ListN.{length-set}
+use borrow.Author.Needs.{needs}
+use Rattle.array_row.specs.UndoLaws.{Turning, goalOf, turning-start, turning-fits, turning-length, turning-again}
+use Rattle.array_row.specs.UndoLaws.{turning-end, goal-length}
+use Rattle.array_row.proofs.undo_between.Statement.{statement}
+use Rattle.array_row.proofs.undo_between.Tie as tie
+
+abbrev Inv-loop : tie.InvT-loop
+Inv-loop row₀ from to i₀ j₀ row i j = Turning (goalOf row₀ from to) row i j
+
+abbrev μ-loop : tie.MeasureT-loop
+μ-loop row₀ from to i₀ j₀ row i j = j - i
+
+loop-holds : tie.Need-loop-holds Inv-loop μ-loop
+loop-holds c =
+    let s = c .before in
+    turning-start (s .args .row .now) (s .args .from) (s .args .to) (s .pre .0) (s .pre .1)
+
+sub-j : tie.Need-sub-j Inv-loop μ-loop
+sub-j c = omega arith
+
+slice-read-undo : tie.Need-slice-read-undo Inv-loop μ-loop
+slice-read-undo c = omega (arith, turning-fits (c .before .before .loop .inv) (omega arith))
+
+undo-requires : tie.Need-undo-requires Inv-loop μ-loop
+undo-requires c κs = search needs
+
+slice-read-undo-2 : tie.Need-slice-read-undo-2 Inv-loop μ-loop
+slice-read-undo-2 c = omega (arith, turning-fits (c .before .before .before .before .loop .inv) (omega arith))
+
+undo-requires-2 : tie.Need-undo-requires-2 Inv-loop μ-loop
+undo-requires-2 c κs = search needs
+
+slice-write-row : tie.Need-slice-write-row Inv-loop μ-loop
+slice-write-row c =
+    omega (arith, turning-fits (c .before .before .before .before .before .loop .inv) (omega arith))
+
+slice-write-row-2 : tie.Need-slice-write-row-2 Inv-loop μ-loop
+slice-write-row-2 c =
+    let l = c .before .before .before .before .before in
+    omega (arith, turning-fits (l .loop .inv) (omega arith), length-set (l .loop .row) (l .loop .i) (c .undo2 .result))
+
+add-i : tie.Need-add-i Inv-loop μ-loop
+add-i c =
+    let l = c .before .before .before .before .before in
+    let s = l .before .before in
+    let g = goal-length (s .args .row .now) (s .args .from) (s .args .to) (s .pre .0) (s .pre .1) in
+    omega (arith, turning-fits (l .loop .inv) (omega arith), turning-length (l .loop .inv), g)
+
+loop-less : tie.Need-loop-less Inv-loop μ-loop
+loop-less c = omega arith
+
+loop-again : tie.Need-loop-again Inv-loop μ-loop
+loop-again c =
+    rw (c .before .before .undo .ensures, c .undo2 .ensures)
+    (turning-again (c .before .before .before .before .before .loop .inv) (omega arith))
+
+same-length : tie.Need-same-length Inv-loop μ-loop
+same-length c =
+    let s = c .before .before .before in
+    turning-length (c .before .loop .inv)
+    ∙ goal-length (s .args .row .now) (s .args .from) (s .args .to) (s .pre .0) (s .pre .1)
+
+returns : tie.Need-returns Inv-loop μ-loop
+returns c = record { bytes = turning-end (c .before .loop .inv) (λ l. omega arith) }
+
+pub undo-between-spec : {M : Type 1} → statement M
+undo-between-spec =
+    tie.close
+    (tie.spec
+    Inv-loop
+    μ-loop
+    loop-holds
+    sub-j
+    slice-read-undo
+    undo-requires
+    slice-read-undo-2
+    undo-requires-2
+    slice-write-row
+    slice-write-row-2
+    add-i
+    loop-less
+    loop-again
+    same-length
+    returns)

@@ -1,0 +1,38 @@
+// Sets of the commands 1 to 24. A set keeps for each command how many in the set it conflicts with: the set test,
+// whether a command is independent of every command in a set, is one look-up.
+
+use array_counts::lift;
+ghost use Prim.Native.Nat.{_<_};
+ghost use mathlib.Core.Path.{_≡_};
+ghost use mathlib.Core.Bool.{true};
+ghost use mathlib.Core.Logic.{_↔_};
+ghost use mathlib.Core.List.{[]};
+ghost use lib.ListN.{getD};
+ghost use Rattle.array_sets.specs.Sets.{Clear, Table, Meeting, Added, empty};
+
+// The set of no command.
+pub fn none() -> [u16; 24]
+    ensures { λ r. ⌜ r ≡ empty ⌝ }
+{
+    [0; 24]
+}
+
+// Whether command k + 1 is independent of every command in the set: its line of conflicts names none of them.
+pub fn independent(k: usize, conflicts: &[[u16; 24]; 24], set: &[u16; 24]) -> bool
+    requires { ⌜ (k < 24) × Meeting (now conflicts) (now set) ⌝ }
+    ensures { λ r. ⌜ ((r ≡ true) ↔ Clear (getD (now (conflicts .entry)) k []) (now (set .entry))) ⌝ }
+{
+    set[k] == 0
+}
+
+// Command k + 1 is put in the set, with its conflicts.
+pub fn add(k: usize, conflicts: &[[u16; 24]; 24], set: &mut [u16; 24])
+    requires { ⌜ (k < 24) × Table (now conflicts) × Meeting (now conflicts) (now set) ⌝ }
+    ensures { λ r. ⌜ Added k (now (conflicts .entry)) (now (set .entry)) (now (set .exit)) ⌝ }
+{
+    if 32768 <= set[k] {
+        return;
+    }
+    lift(set, &conflicts[k]);
+    set[k] += 32768;
+}

@@ -1,0 +1,49 @@
+-- `call_codes::equal_code` meets its contract.
+use mathlib.Core.Path.{_≡_, sym, _∙_, ap}
+use mir.Syntax.{w64}
+use mir.ValLaws.{toZ-ofZ}
+use Rattle.spec.specs.declared.Equality.{Equality}
+use Rattle.spec.specs.Answers.{toldEquality}
+use Rattle.spec.specs.Codes.{equalCode}
+use borrow.Author.Needs.{needs}
+use Rattle.call_codes.proofs.equal_code.Statement.{statement}
+use Rattle.call_codes.proofs.equal_code.Tie as tie
+
+told : {a b : Equality} → a ≡ b → equalCode (toldEquality b) ≡ equalCode (toldEquality a)
+told e = sym (ap (λ t. equalCode (toldEquality t)) e)
+
+enum-told : tie.Need-enum-told
+enum-told c = search needs
+
+enum-told-2 : tie.Need-enum-told-2
+enum-told-2 c = search needs
+
+enum-known-answer : tie.Need-enum-known-answer
+enum-known-answer c = search needs
+
+refusal-code-requires : tie.Need-refusal-code-requires
+refusal-code-requires c κs = search needs
+
+returns : tie.Need-returns
+returns c = told (c .enum-told .given .1)
+
+returns-2 : tie.Need-returns-2
+returns-2 c = told (c .enum-told2 .given .1)
+
+returns-3 : tie.Need-returns-3
+returns-3 c =
+    toZ-ofZ w64 (c .refusal-code .result) (record { sfits = c .refusal-code .ok })
+    ∙ c .refusal-code .ensures
+    ∙ told (c .before .before .answer .given .1)
+
+pub equal-code-spec : {M : Type 1} → statement M
+equal-code-spec =
+    tie.close
+    (tie.spec
+    enum-told
+    enum-told-2
+    enum-known-answer
+    refusal-code-requires
+    returns
+    returns-2
+    returns-3)

@@ -1,0 +1,87 @@
+// The numbers that a C caller gets for the answers of the calls. spec/specs/Codes.antt defines them.
+
+ghost use Prim.Native.Nat.{ℕ, _+_, _<_, _^_};
+ghost use mathlib.Core.Path.{_≡_};
+ghost use lib.IntN.{pos, negℤ};
+ghost use Rattle.refusal.specs.Line.{numberOf};
+ghost use Rattle.spec.specs.declared.Written.the-variants.{Length};
+ghost use Rattle.spec.specs.declared.Loops.the-variants.{Joined};
+ghost use Rattle.spec.specs.Answers.{toldWritten, toldEquality, toldLoops, toldLeadIn};
+ghost use Rattle.spec.specs.Codes.{lengthCode, equalCode, loopsCode, checkCode};
+use refusal::Reason;
+use spec::Equality;
+use spec::LeadIn;
+use spec::Loops;
+use spec::Written;
+
+// Minus the number of a reason.
+fn refusal_code(reason: Reason) -> i64
+    ensures { λ r. ⌜ r ≡ negℤ (pos (numberOf reason)) ⌝ }
+{
+    match reason {
+        Reason::CatalogueSize => -1,
+        Reason::CommandCount => -2,
+        Reason::Index => -3,
+        Reason::RecordCommand => -4,
+        Reason::EndlessChain => -5,
+        Reason::OwnChain => -6,
+        Reason::PlanSize => -7,
+        Reason::PlanByte => -8,
+        Reason::AreaSize => -9,
+        Reason::Unsettled => -10,
+        Reason::Framing => -11,
+    }
+}
+
+pub fn length_code(answer: Written) -> i64
+    requires { ⌜ ((l : ℕ) → answer ≡ Length l → l < 2 ^ 63) ⌝ }
+    ensures { λ r. ⌜ r ≡ lengthCode (toldWritten answer) ⌝ }
+{
+    match answer {
+        Written::Length(l) => l as i64,
+        Written::Refused(refusal) => {
+            let reason = refusal.reason;
+            refusal_code(reason)
+        }
+    }
+}
+
+pub fn equal_code(answer: Equality) -> i64
+    ensures { λ r. ⌜ r ≡ equalCode (toldEquality answer) ⌝ }
+{
+    match answer {
+        Equality::Yes => 1,
+        Equality::No => 0,
+        Equality::Refused(refusal) => {
+            let reason = refusal.reason;
+            refusal_code(reason)
+        }
+    }
+}
+
+pub fn loops_code(answer: Loops) -> i64
+    requires { ⌜ ((l : ℕ) → answer ≡ Joined l → l + 1 < 2 ^ 63) ⌝ }
+    ensures { λ r. ⌜ r ≡ loopsCode (toldLoops answer) ⌝ }
+{
+    match answer {
+        Loops::Joined(l) => (l + 1) as i64,
+        Loops::Apart => 0,
+        Loops::Refused(refusal) => {
+            let reason = refusal.reason;
+            refusal_code(reason)
+        }
+    }
+}
+
+pub fn check_code(answer: LeadIn) -> i64
+    ensures { λ r. ⌜ r ≡ checkCode (toldLeadIn answer) ⌝ }
+{
+    match answer {
+        LeadIn::Yes(_) => 1,
+        LeadIn::No(_) => 0,
+        LeadIn::Refused(refusal) => {
+            let reason = refusal.reason;
+            refusal_code(reason)
+        }
+    }
+}

@@ -1,0 +1,94 @@
+-- `call_forms::write_form` meets its contract: a line refuses, or the form is written. Assumes nothing.
+use Prim.Native.Nat.{ℕ}
+use mathlib.Core.List.{List}
+use Rattle.engine.specs.Passed.{Passed}
+use Rattle.input_checks.specs.EntryLaws.{entered-none}
+use Rattle.piling_form.specs.Coring.{form}
+use Rattle.call_forms.specs.FormingLaws.{form-refused, form-small, form-written}
+use borrow.Author.Needs.{needs}
+use Rattle.call_forms.proofs.write_form.Statement.{statement}
+use Rattle.call_forms.proofs.write_form.Tie as tie
+
+abbrev start : tie.After-one-plan → tie.Start
+start e = e .before .before .before .before .before .before
+
+abbrev wanted : tie.After-one-plan → List ℕ → List ℕ → List ℕ
+wanted e = form (start e .args .cored)
+
+abbrev area : tie.After-one-plan → List ℕ
+area e = start e .args .area .now
+
+-- the plan has passed, and the area is large enough
+module _ (i : tie.Else1) where
+  abbrev checks : tie.After-one-plan
+  checks = i .before .before .before
+
+  abbrev cat : List ℕ
+  cat = start checks .args .catalogue .now
+
+  passed : Passed cat (checks .one-plan .last .1 .1 .0) (start checks .args .plan .now)
+  passed =
+      let d = checks .one-plan .ensures in
+      d .passed (entered-none d (i .before .enum-told .given .1))
+
+blank-requires : tie.Need-blank-requires
+blank-requires c κs = search needs
+
+one-plan-requires : tie.Need-one-plan-requires
+one-plan-requires c κs = search needs
+
+enum-told : tie.Need-enum-told
+enum-told c = search needs
+
+enum-told-2 : tie.Need-enum-told-2
+enum-told-2 c = search needs
+
+not-written-requires : tie.Need-not-written-requires
+not-written-requires c κs = search needs
+
+returns : tie.Need-returns
+returns c =
+    let e = c .before .before .before in
+    form-refused (e .one-plan .ensures) (wanted e) (area e) (c .before .enum-told2 .given .1) (c .not-written .ensures)
+
+small-area-requires : tie.Need-small-area-requires
+small-area-requires c κs = search needs
+
+returns-2 : tie.Need-returns-2
+returns-2 c =
+    let t = c .before .before in
+    let e = t .before .before in
+    form-small (e .one-plan .ensures) (wanted e) (area e) (t .enum-told .given .1) (c .before .if1 .taken)
+    (c .small-area .ensures)
+
+form-requires : tie.Need-form-requires
+form-requires c κs =
+    let i = c .before .before in
+    (cat i, passed i, i .if1 .left)
+
+same-length : tie.Need-same-length
+same-length c = search needs
+
+returns-3 : tie.Need-returns-3
+returns-3 c =
+    let f = c .before .before in
+    let i = f .before .before .before in
+    let e = checks i in
+    form-written (e .one-plan .ensures) (wanted e) (area e) (i .before .enum-told .given .1) (i .if1 .left)
+    (f .form .ensures (cat i) (passed i))
+
+pub write-form-spec : {M : Type 1} → statement M
+write-form-spec =
+    tie.close
+    (tie.spec
+    blank-requires
+    one-plan-requires
+    enum-told
+    enum-told-2
+    not-written-requires
+    returns
+    small-area-requires
+    returns-2
+    form-requires
+    same-length
+    returns-3)

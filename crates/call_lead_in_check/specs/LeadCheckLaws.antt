@@ -1,0 +1,90 @@
+-- The lead-in check goes through its checks, then line 9 for its two areas.
+use Prim.Native.Nat.{ℕ, _+_, _<_, _≤_}
+use mathlib.Core.Path.{_≡_, refl, _∙_, ap}
+use mathlib.Core.List.{List, [], _∷_, _++_}
+use mathlib.Core.Option.{Option, none, some}
+use lib.ListN.{length}
+use borrow.Author.Tests.{lt-ltb, le-ltb}
+use Rattle.refusal.specs.Line.{Line, line, Answer, refused, given, firstLine}
+use Rattle.refusal.specs.LineLaws.{first-early, first-late}
+use Rattle.refusal.specs.declared.Refusal.{Refusal}
+use Rattle.refusal.specs.declared.Checked.{Checked}
+use Rattle.refusal.specs.declared.Checked.the-variants.{Refused, Passed}
+use Rattle.input_plan.specs.AreaLaws.{starts-area}
+use Rattle.input_plan.specs.Letters.{normalForm}
+use Rattle.checking.specs.declared.Both.{Both}
+use Rattle.checking.specs.Checking.{Checkable, CheckedIn}
+use Rattle.input_checks.specs.Entry.{ThreePlans, threeLines, SameRefusal}
+use Rattle.input_checks.specs.EntryLaws.{entered-none, entered-some}
+use Rattle.spec.specs.Answers as Answers
+use Rattle.spec.specs.Calls.{areaLine}
+use Rattle.spec.specs.CallLaws.{compared}
+use Rattle.spec.specs.Loops.{checkLines, checkAnswer, checkArea0, checkArea1}
+
+-- the answer t and both areas afterwards
+abbrev pub CheckOutcome : List ℕ → List ℕ → List ℕ → List ℕ → List ℕ → List ℕ → Answer Answers.Checked
+    → List ℕ → List ℕ → Type 0
+CheckOutcome c v w u area0 area1 t after0 after1 =
+    (t ≡ checkAnswer c v w u area0 area1)
+    × (after0 ≡ checkArea0 c v w u area0 area1)
+    × (after1 ≡ checkArea1 c v w u area0 area1)
+
+module _ {c v w : List ℕ} (u : List ℕ) {rows : List (List ℕ)} {r : Checked} (d : ThreePlans c v w u rows r)
+    (area0 area1 : List ℕ) where
+  abbrev last : List (Option Line)
+  last = areaLine 0 (length v + length u) area0 ∷ areaLine 1 (length u + length w) area1 ∷ []
+
+  refused-by : {t : Answer Answers.Checked} {l : Line} → firstLine (checkLines c v w u area0 area1) ≡ some l
+      → t ≡ refused l → CheckOutcome c v w u area0 area1 t area0 area1
+  refused-by e k = rw e (k, refl, refl)
+
+  pub check-refused : {t : Answer Answers.Checked} {f : Refusal} → r ≡ Refused f → SameRefusal r t
+      → CheckOutcome c v w u area0 area1 t area0 area1
+  check-refused {t} {f} e s = refused-by (first-early (threeLines c v w u) last (entered-some d e)) (s f e)
+
+  module _ {n : ℕ} (e : r ≡ Passed n) where
+    late : firstLine (checkLines c v w u area0 area1) ≡ firstLine last
+    late = first-late (threeLines c v w u) last (entered-none d e)
+
+    pub check-small0 : {l : Line} → length area0 < length v + length u → l ≡ line 9 0 0
+        → CheckOutcome c v w u area0 area1 (refused l) area0 area1
+    check-small0 h k = refused-by (late ∙ rw (lt-ltb (length area0) (length v + length u) h)) (ap refused k)
+
+    module _ (h : length v + length u ≤ length area0) where
+      pub check-small1 : {l : Line} → length area1 < length u + length w → l ≡ line 9 0 1
+          → CheckOutcome c v w u area0 area1 (refused l) area0 area1
+      check-small1 i k =
+          refused-by
+          (late ∙ rw (le-ltb (length area0) (length v + length u) h, lt-ltb (length area1) (length u + length w) i))
+          (ap refused k)
+
+      module _ (i : length u + length w ≤ length area1) where
+        pub check-checkable : Checkable c rows v w u area0 area1
+        check-checkable =
+            let (p, q) = d .passed (entered-none d e) in
+            record {
+              table = p .0 .table;
+              few = p .0 .few;
+              passing-v = p .0 .passing;
+              passing-w = p .1 .passing;
+              passing-u = q .1;
+              short-v = p .0 .short;
+              short-w = p .1 .short;
+              short-u = q .0;
+              fits0 = h;
+              fits1 = i;
+            }
+
+        pub check-told : {b : Both} {after0 after1 : List ℕ} {t : Answer Answers.Checked}
+            → CheckedIn c v w u area0 after0 area1 after1 b
+            → t ≡ given (record { yes = b .same; vu = b .vu; uw = b .uw })
+            → CheckOutcome c v w u area0 area1 t after0 after1
+        check-told {b} {after0} {after1} k j =
+            let s = compared (b .same) (normalForm c (v ++ u)) (normalForm c (u ++ w)) (k .same) in
+            let z : firstLine (checkLines c v w u area0 area1) ≡ none =
+            late ∙ rw (le-ltb (length area0) (length v + length u) h, le-ltb (length area1) (length u + length w) i) in
+            rw z (
+              j ∙ ap given (λ x. record { yes = s x; vu = k .written0 .count x; uw = k .written1 .count x }),
+              starts-area (k .written0),
+              starts-area (k .written1),
+            )

@@ -1,0 +1,110 @@
+-- `call_loops::loops` meets its contract: a line refuses, or the verdict is told. Assumes nothing.
+use Prim.Native.Nat.{ℕ}
+use mathlib.Core.Path.{sym, subst}
+use mathlib.Core.List.{List}
+use native.Mathlib.Omega.{arith}
+use Rattle.spec.specs.Loops.{Looped}
+use Rattle.conjugacy_of_plans.specs.Join.{Plans}
+use Rattle.call_loops.specs.LoopingLaws.{loops-refused, loops-plans, loops-fits, loops-small, loops-told}
+use borrow.Author.Needs.{needs}
+use Rattle.call_loops.proofs.loops.Statement.{statement}
+use Rattle.call_loops.proofs.loops.Tie as tie
+
+abbrev start : tie.After-two-plans → tie.Start
+start e = e .before .before .before .before .before .before .before
+
+abbrev area : tie.After-two-plans → List ℕ
+area e = start e .args .area .now
+
+abbrev checks : tie.After-known-told → tie.After-two-plans
+checks k = k .before .before .before
+
+abbrev cat : tie.After-known-told → List ℕ
+cat k = start (checks k) .args .catalogue .now
+
+-- the plans have passed
+plans : (k : tie.After-known-told) → Plans (cat k) (checks k .two-plans .last .1 .1 .1 .0)
+    (start (checks k) .args .v .now) (start (checks k) .args .w .now) (k .before .checked .given .0 .0)
+plans k = loops-plans (checks k .two-plans .ensures) (area (checks k)) (k .before .checked .given .1)
+
+blank-requires : tie.Need-blank-requires
+blank-requires c κs = search needs
+
+two-plans-requires : tie.Need-two-plans-requires
+two-plans-requires c κs = search needs
+
+enum-known-checked : tie.Need-enum-known-checked
+enum-known-checked c = search needs
+
+enum-told : tie.Need-enum-told
+enum-told c = search needs
+
+not-joined-requires : tie.Need-not-joined-requires
+not-joined-requires c κs = search needs
+
+returns : tie.Need-returns
+returns c =
+    let e = c .before .before .before in
+    loops-refused (e .two-plans .ensures) (area e) (c .before .enum-told .given .1) (c .not-joined .ensures)
+
+add-if1 : tie.Need-add-if1
+add-if1 c = search needs
+
+mul-if1 : tie.Need-mul-if1
+mul-if1 c =
+    let e = checks c in
+    record { fits = omega (arith, loops-fits (e .two-plans .ensures) (area e) (c .before .checked .given .1)) }
+
+small-area-requires : tie.Need-small-area-requires
+small-area-requires c κs = search needs
+
+returns-2 : tie.Need-returns-2
+returns-2 c =
+    let k = c .before .before in
+    let e = checks k in
+    loops-small (e .two-plans .ensures) (area e) (k .before .checked .given .1) (c .before .if1 .taken)
+    (c .small-area .ensures)
+
+join-requires : tie.Need-join-requires
+join-requires c κs =
+    let i = c .before .before in
+    let p = plans (i .before) in
+    (cat (i .before), p, i .if1 .left)
+
+verdict-requires : tie.Need-verdict-requires
+verdict-requires c κs = search needs
+
+same-length : tie.Need-same-length
+same-length c = search needs
+
+returns-3 : tie.Need-returns-3
+returns-3 c =
+    let j = c .before .before .before in
+    let i = j .before .before .before in
+    let k = i .before in
+    let e = checks k in
+    let s = start e in
+    let p = plans k in
+    subst (λ t. Looped (cat k) (s .args .v .now) (s .args .w .now) (area e) t (j .join .last .1 .1 .1 .1 .0))
+    (sym (c .verdict .ensures))
+    (loops-told (e .two-plans .ensures) (area e) (k .before .checked .given .1) (i .if1 .left)
+    (j .join .ensures (cat k) p))
+
+pub loops-spec : {M : Type 1} → statement M
+loops-spec =
+    tie.close
+    (tie.spec
+    blank-requires
+    two-plans-requires
+    enum-known-checked
+    enum-told
+    not-joined-requires
+    returns
+    add-if1
+    mul-if1
+    small-area-requires
+    returns-2
+    join-requires
+    verdict-requires
+    same-length
+    returns-3)

@@ -1,0 +1,20 @@
+-- `call_loops::not_joined` meets its contract: the refusal is passed on. Assumes nothing.
+use Rattle.input_checks.specs.EntryLaws.{passed-on-none, passed-on}
+use borrow.Author.Needs.{needs}
+use Rattle.call_loops.proofs.not_joined.Statement.{statement}
+use Rattle.call_loops.proofs.not_joined.Tie as tie
+
+enum-told : tie.Need-enum-told
+enum-told c = search needs
+
+enum-known-checked : tie.Need-enum-known-checked
+enum-known-checked c = search needs
+
+returns : tie.Need-returns
+returns c = passed-on-none _ (c .enum-told .given .1)
+
+returns-2 : tie.Need-returns-2
+returns-2 c = passed-on (c .before .checked .given .1)
+
+pub not-joined-spec : {M : Type 1} → statement M
+not-joined-spec = tie.close (tie.spec enum-told enum-known-checked returns returns-2)

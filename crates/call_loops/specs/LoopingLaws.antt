@@ -1,0 +1,71 @@
+-- The loops call goes through its checks, then line 9, and line 10 never holds.
+use Prim.Native.Nat.{ℕ, _+_, _*_, _<_, _≤_}
+use mathlib.Core.Path.{_≡_, refl, sym, _∙_, ap, subst}
+use mathlib.Core.List.{List, [], _∷_}
+use mathlib.Core.Option.{Option, none}
+use native.Mathlib.Omega.{arith}
+use native.Mathlib.Nat.{mul-le-mul-left}
+use lib.ListN.{length}
+use borrow.Author.Tests.{lt-ltb, le-ltb}
+use Rattle.refusal.specs.Line.{Line, line, Answer, refused, firstLine}
+use Rattle.refusal.specs.LineLaws.{first-early, first-late}
+use Rattle.refusal.specs.declared.Refusal.{Refusal}
+use Rattle.refusal.specs.declared.Checked.{Checked}
+use Rattle.refusal.specs.declared.Checked.the-variants.{Refused, Passed}
+use Rattle.conjugacy_of_parts.specs.declared.Outcome.{Outcome}
+use Rattle.conjugacy_of_plans.specs.Join as Join
+use Rattle.conjugacy_of_plans.specs.Join.{Plans, Told}
+use Rattle.joining.specs.UnsettledLaws.{never-unsettled}
+use Rattle.input_checks.specs.Entry.{TwoPlans, twoLines, SameRefusal}
+use Rattle.input_checks.specs.EntryLaws.{entered-none, entered-some, entered-commands}
+use Rattle.spec.specs.Calls.{areaLine}
+use Rattle.spec.specs.Loops.{Looped, refuses, apart, joined, loopsLines, leadInRoom, unsettledLine}
+use Rattle.call_loops.specs.Looping.{toldOutcome}
+
+module _ {c v w : List ℕ} {rows : List (List ℕ)} {r : Checked} (d : TwoPlans c v w rows r) (area : List ℕ) where
+  abbrev last : List (Option Line)
+  last = areaLine 0 (leadInRoom c v w) area ∷ unsettledLine 1 c v ∷ unsettledLine 2 c w ∷ []
+
+  pub loops-refused : {t : Answer (Option ℕ)} {f : Refusal} → r ≡ Refused f → SameRefusal r t → Looped c v w area t area
+  loops-refused {t} {f} e s =
+      subst (λ x. Looped c v w area x area) (sym (s f e))
+      (refuses (first-early (twoLines c v w) last (entered-some d e)))
+
+  module _ {n : ℕ} (e : r ≡ Passed n) where
+    pub loops-plans : Plans c rows v w n
+    loops-plans =
+        let p = d .passed (entered-none d e) in
+        record { first = p .0; second = p .1; many = entered-commands d e }
+
+    -- the room that is asked for is a small number
+    pub loops-fits : n * (length v + length w) ≤ 49152
+    loops-fits =
+        let p = d .passed (entered-none d e) in
+        let h : n * (length v + length w) ≤ n * 2048 = mul-le-mul-left n (omega (arith, p .0 .short, p .1 .short)) in
+        omega (arith, entered-commands d e, p .0 .few)
+
+    room : {m : ℕ} → n * (length v + length w) ≡ m → leadInRoom c v w ≡ m
+    room h = ap (λ k. k * (length v + length w)) (sym (entered-commands d e)) ∙ h
+
+    pub loops-small : {l : Line} → length area < n * (length v + length w) → l ≡ line 9 0 0
+        → Looped c v w area (refused l) area
+    loops-small {l} h k =
+        let q : length area < leadInRoom c v w = rw (room refl) h in
+        subst (λ x. Looped c v w area (refused x) area) (sym k)
+        (refuses (first-late (twoLines c v w) last (entered-none d e) ∙ rw (lt-ltb (length area) (leadInRoom c v w) q)))
+
+    pub loops-none : n * (length v + length w) ≤ length area → firstLine (loopsLines c v w area) ≡ none
+    loops-none h =
+        let p = d .passed (entered-none d e) in
+        let q : leadInRoom c v w ≤ length area = rw (room refl) h in
+        first-late (twoLines c v w) last (entered-none d e)
+        ∙ rw (
+          le-ltb (length area) (leadInRoom c v w) q,
+          never-unsettled 1 c v (p .0 .few) (p .0 .passing),
+          never-unsettled 2 c w (p .1 .few) (p .1 .passing),
+        )
+
+    pub loops-told : {o : Outcome} {after : List ℕ} → n * (length v + length w) ≤ length area → Told c v w area o after
+        → Looped c v w area (toldOutcome o) after
+    loops-told h (Join.joined t l) = joined (loops-none h) t l
+    loops-told h (Join.apart t) = apart (loops-none h) t

@@ -1,0 +1,54 @@
+// The call that decides whether two loops are joined, and writes a lead-in. The crate spec defines what it answers
+// (specs/Loops.antt).
+
+ghost use mathlib.Core.Path.{_≡_};
+ghost use Rattle.spec.specs.Answers.{toldLoops};
+ghost use Rattle.spec.specs.Loops.{Looped};
+ghost use Rattle.input_checks.specs.Entry.{SameRefusal};
+ghost use Rattle.call_loops.specs.Looping.{toldOutcome};
+use conjugacy_of_parts::Outcome;
+use refusal::Checked;
+use refusal::Reason;
+use refusal::Refusal;
+use spec::Loops;
+
+// A refused check, passed on untouched as the answer of the loops call.
+fn not_joined(checked: Checked) -> Loops
+    ensures { λ r. ⌜ SameRefusal checked (toldLoops r) ⌝ }
+{
+    match checked {
+        Checked::Passed(_) => Loops::Apart,
+        Checked::Refused(refusal) => Loops::Refused(refusal),
+    }
+}
+
+// The verdict as the answer of the loops call; line 10 for a plan with an unsettled part.
+fn verdict(outcome: Outcome) -> Loops
+    ensures { λ r. ⌜ toldLoops r ≡ toldOutcome outcome ⌝ }
+{
+    match outcome {
+        Outcome::Joined(l) => Loops::Joined(l),
+        Outcome::Apart => Loops::Apart,
+        Outcome::Unsettled(plan) => Loops::Refused(Refusal {
+            reason: Reason::Unsettled,
+            plan,
+            place: 0,
+        }),
+    }
+}
+
+// Whether two loops are joined. Where they are, a lead-in from v to w stands at the start of area, in normal form.
+pub fn loops(catalogue: &[u8], v: &[u8], w: &[u8], area: &mut [u8]) -> Loops
+    ensures { λ r. ⌜ Looped (now (catalogue .entry)) (now (v .entry)) (now (w .entry)) (now (area .entry)) (toldLoops r)
+        (now (area .exit)) ⌝ }
+{
+    let mut conflicts = input_conflicts::blank();
+    let checked = input_checks::two_plans(catalogue, v, w, &mut conflicts);
+    let Checked::Passed(commands) = checked else {
+        return not_joined(checked);
+    };
+    if area.len() < commands * (v.len() + w.len()) {
+        return Loops::Refused(input_checks::small_area(0));
+    }
+    verdict(joining::join(v, w, commands, &conflicts, area))
+}

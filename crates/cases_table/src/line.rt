@@ -1,0 +1,132 @@
+// Reading a line of the table: a name, ":", a call and the plans, with ";" between them. "@" brings the bytes of the
+// area, "#" another catalogue than K. −3 is byte 131, and "0 x5" is five zeros.
+
+ghost use Prim.Native.Nat.{_<_, _≤_};
+use crate::AREA;
+use crate::CATALOGUE;
+use crate::NAME;
+use crate::Question;
+use crate::V;
+use crate::blank;
+use crate::pushed;
+use crate::sized;
+use crate::with;
+use cases_solver::at;
+
+fn is_digit(b: u8) -> bool {
+    47 < b && b < 58
+}
+
+// The number that begins at a place, modulo 10,000.
+fn number(text: &[u8], start: usize) -> usize {
+    let mut value: usize = 0;
+    let mut i = start;
+    while i < text.len() && is_digit(at(text, i)) {
+        value = (10 * value + (at(text, i) % 16) as usize) % 10000;
+        i += 1;
+    }
+    value
+}
+
+// The byte of a number of at most 127 behind a mark.
+fn byte(mark: u8, value: usize) -> u8 {
+    let low = (value % 128) as u8;
+    if mark == b'-' { 128 + low } else { low }
+}
+
+// A number behind a mark, taken into a part: one byte more, or after "x" so many in all.
+fn taken(q: Question, part: usize, mark: u8, value: usize) -> Question
+    requires { ⌜ part < 6 ⌝ }
+{
+    if mark == b'x' {
+        sized(q, part, value)
+    } else {
+        pushed(q, part, byte(mark, value))
+    }
+}
+
+// Opens a part: it begins empty, and the letter behind its mark is kept at place 14 + part.
+fn opened(q: Question, part: usize, letter: u8) -> Question
+    requires { ⌜ part < 6 ⌝ }
+{
+    with(sized(q, part, 0), 14 + part, letter)
+}
+
+// The part that a mark opens, or else the part that is open.
+fn part_of(mark: u8, part: usize) -> usize
+    requires { ⌜ part < 6 ⌝ }
+    ensures { λ r. ⌜ r < 6 ⌝ }
+{
+    match mark {
+        b':' => V,
+        b';' => (part + 1) % 6,
+        b'@' => AREA,
+        b'#' => CATALOGUE,
+        _ => part,
+    }
+}
+
+// A letter of the name, or a number that begins behind a mark.
+fn kept(q: Question, part: usize, text: &[u8], i: usize) -> Question
+    requires { ⌜ part < 6 ⌝ }
+    requires { ⌜ i < 4096 ⌝ }
+{
+    let mark = at(text, i);
+    if part == NAME {
+        pushed(q, part, mark)
+    } else if !is_digit(mark) && is_digit(at(text, i + 1)) {
+        taken(q, part, mark, number(text, i + 1))
+    } else {
+        q
+    }
+}
+
+// One more character of a line, in this part.
+fn step(q: Question, before: usize, part: usize, text: &[u8], i: usize) -> Question
+    requires { ⌜ part < 6 ⌝ }
+    requires { ⌜ i < 4096 ⌝ }
+{
+    if part == before {
+        kept(q, part, text, i)
+    } else {
+        opened(q, part, at(text, i + 2))
+    }
+}
+
+// Reads the line at a place.
+fn line(q: Question, text: &[u8], start: usize) -> Question {
+    let mut read = q;
+    let mut part = NAME;
+    let mut i = start;
+    while i < 4095 && at(text, i) != b'\n' {
+        let before = part;
+        part = part_of(at(text, i), before);
+        let next = step(read, before, part, text, i);
+        read = next;
+        i += 1;
+    }
+    read
+}
+
+// The question on the line at a place. The catalogue is K, with conflicts 1-2, 2-3, 3-4, and the area large enough for
+// any case, unless the line has others.
+pub fn read(text: &[u8], start: usize) -> Question {
+    let q = line(sized(blank(), AREA, 1100), text, start);
+    if at(&q, 17) == 0 {
+        line(q, b"# 4 3 1 2 3 0 2 0 3 0 4 0\n", 0)
+    } else {
+        q
+    }
+}
+
+// The end of the line at a place.
+pub fn end(text: &[u8], start: usize) -> usize
+    requires { ⌜ start ≤ 4095 ⌝ }
+    ensures { λ r. ⌜ (start ≤ r) × (r ≤ 4095) ⌝ }
+{
+    let mut i = start;
+    while i < 4095 && at(text, i) != b'\n' {
+        i += 1;
+    }
+    i
+}

@@ -1,0 +1,70 @@
+-- Two cores: where other commands occur they are apart, and where the same occur their parts decide.
+use Prim.Native.Nat.{ℕ}
+use mathlib.Core.Path.{_≡_, refl, sym, _∙_, subst}
+use mathlib.Core.Bool.{Bool, true, false, not, _&&_, true≢false}
+use mathlib.Core.List.{List}
+use mathlib.Core.Logic.{_↔_}
+use borrow.Author.Tests.{not-true, not-false}
+use Rattle.input_plan.specs.Letters.{alphabet}
+use Rattle.theory_conjugacy.specs.Part.{commands, labels, label, apexes}
+use Rattle.theory_conjugacy.specs.PartLaws.{label-same}
+use Rattle.theory_conjugacy.specs.Decision.{alike?, parts-joined?, cores-joined?}
+use Rattle.theory_conjugacy.specs.DecisionLaws.{alike-true, alike-refl}
+use Rattle.theory_conjugacy.specs.LeadIn.{parts-lead}
+use Rattle.conjugacy_parts.specs.Flags.{Flags, LabelsOf}
+use Rattle.conjugacy_of_parts.specs.declared.Outcome.{Outcome}
+use Rattle.conjugacy_of_parts.specs.declared.Outcome.the-variants.{Joined, Apart, Unsettled}
+use Rattle.conjugacy_of_parts.specs.Lead.{Leads}
+use Rattle.conjugacy_of_cores.specs.Pair.{Leadable, Coreable, CoresLead}
+use Rattle.conjugacy_of_cores.specs.PassageLaws.{parts-passage}
+
+-- what the comparison of the flags tells
+pub tells-same : {P : Type 0} {r : Bool} → (r ≡ true) ↔ P → not r ≡ false → P
+tells-same {P} {r} t e = t .0 (not-false r e)
+
+module _ {c : List ℕ} {conflicts : List (List ℕ)} {x y : List ℕ} {rounds : ℕ} {row : List ℕ} {at : ℕ}
+    (h : Coreable c conflicts x y rounds row at) where
+  pub cores-apart : {r : Bool} → (r ≡ true) ↔ (commands (alphabet c) x ≡ commands (alphabet c) y) → not r ≡ true
+      → cores-joined? (alphabet c) x y ≡ false
+  unfolding cores-joined?
+  cores-apart {r} t e = go (alike? (commands (alphabet c) x) (commands (alphabet c) y)) refl
+    where
+      go : (s : Bool) → alike? (commands (alphabet c) x) (commands (alphabet c) y) ≡ s
+          → (s && parts-joined? (alphabet c) (apexes (alphabet c) x) x y) ≡ false
+      go true f =
+          let d = alike-true (commands (alphabet c) x) (commands (alphabet c) y) f in
+          absurd (true≢false (sym (t .1 d) ∙ not-true r e))
+      go false f = refl
+
+  module _ (same : commands (alphabet c) x ≡ commands (alphabet c) y) where
+    pub cores-leadable : {fs names : List ℕ} → Flags (commands (alphabet c) x) fs
+        → LabelsOf (labels (alphabet c) (commands (alphabet c) x)) names
+        → Leadable c conflicts x y fs names rounds
+    unfolding label
+    cores-leadable {fs} {names} f l = record {
+      two = record {
+        first = record { cyclic = h .first; labelled = l };
+        second = record {
+          cyclic = h .second;
+          labelled = subst (λ (lab : ℕ → ℕ). LabelsOf lab names) (label-same (alphabet c) x y same) l;
+        };
+        same = same;
+      };
+      flags = f;
+      enough = h .enough;
+    }
+
+    decided : cores-joined? (alphabet c) x y ≡ parts-joined? (alphabet c) (apexes (alphabet c) x) x y
+    unfolding cores-joined?
+    decided = rw (← same, alike-refl (commands (alphabet c) x))
+
+    pub cores-lead : (after : List ℕ) (o : Outcome) → Leads c x y (apexes (alphabet c) x) row at after o
+        → CoresLead c x y row at after o
+    cores-lead after (Joined end) d = record {
+      word = parts-lead (alphabet c) (apexes (alphabet c) x) x y;
+      passage = parts-passage (h .first) (h .second) (decided ∙ d .joined);
+      written = d .written;
+      ends = d .ends;
+    }
+    cores-lead after Apart d = decided ∙ d
+    cores-lead after (Unsettled p) d = d

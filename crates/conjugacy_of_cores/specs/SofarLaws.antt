@@ -1,0 +1,217 @@
+-- The loop over the commands: the lead-ins of the apexes passed stand in the row, which has room for the next.
+use Prim.Native.Nat.{ℕ, zero, suc, _+_, _*_, _≤_, _<_}
+use native.Mathlib.Omega.{arith}
+use native.Mathlib.Nat.{mul-le-mul-left, mul-add, add-mul}
+use mathlib.Core.Path.{_≡_, refl, sym, _∙_, ap, subst}
+use mathlib.Core.Bool.{true, false}
+use mathlib.Core.List.{List, [], _∷_, _++_, append-assoc, append-nil, Memᴰ·append-left}
+use mathlib.Core.List.{List·Memᴰ·head, List·Memᴰ·tail}
+use lib.ListN.{length, take, length-append}
+use Rattle.theory_words.specs.BoolLaws.{and-both}
+use Rattle.theory_words.specs.All.{all-map}
+use Rattle.theory_words.specs.TraceLaws.{~-length}
+use Rattle.input_catalogue.specs.Catalogue as Catalogue
+use Rattle.input_plan.specs.CommandLaws.{command-range}
+use Rattle.input_plan.specs.Letters.{alphabet}
+use Rattle.theory_conjugacy.specs.AscendingLaws.{_∈_, Within}
+use Rattle.theory_conjugacy.specs.CommandLaws.{Occurs, all-occurs}
+use Rattle.theory_conjugacy.specs.Part.{commands, label, apexes, part, share}
+use Rattle.theory_conjugacy.specs.PartLaws.{shares, part-share, apexes-same, apexes-~}
+use Rattle.theory_conjugacy.specs.Decision.{part-ring, rotated?, parts-joined?}
+use Rattle.theory_conjugacy.specs.LeadIn.{parts-lead}
+use Rattle.theory_conjugacy.specs.LeadInLaws.{apical-part, parts-length}
+use Rattle.theory_conjugacy.specs.JoinLaws.{parts-lead-length}
+use Rattle.conjugacy_of_parts.specs.declared.Outcome.{Outcome}
+use Rattle.conjugacy_of_parts.specs.declared.Outcome.the-variants.{Joined, Apart, Unsettled}
+use Rattle.conjugacy_of_parts.specs.Lead.{Led, Leads, Stops}
+use Rattle.conjugacy_of_cores.specs.Pair.{apexAt, partsOf, apexesFrom, Leadable, Placeable}
+use Rattle.conjugacy_of_cores.specs.Pair.{Sofar}
+use Rattle.conjugacy_of_cores.specs.ApexLaws.{shares-append, joined-append, lead-append, apexes-from}
+
+-- no lead-in yet
+pub led-nothing : (c x y row : List ℕ) (at : ℕ) → Led c x y [] row at row at
+unfolding parts-joined? parts-lead
+led-nothing c x y row at = record {
+  joined = refl;
+  written = sym (append-nil (take at row));
+  ends = omega arith;
+}
+
+-- one after the other
+led-append : {c x y before mid after : List ℕ} {at end last : ℕ} (ms ns : List ℕ) → Led c x y ms before at mid end
+    → Led c x y ns mid end after last → Led c x y (ms ++ ns) before at after last
+led-append {c} {x} {y} {before} {mid} {after} {at} {end} {last} ms ns a b =
+    let u = parts-lead (alphabet c) ms x y in
+    let v = parts-lead (alphabet c) ns x y in
+    let e = lead-append (alphabet c) ms ns x y in
+    record {
+      joined = rw (joined-append (alphabet c) ms ns x y, a .joined) (b .joined);
+      written = b .written ∙ ap (λ (z : List ℕ). z ++ v) (a .written) ∙ append-assoc (take at before) u v
+          ∙ ap (λ (z : List ℕ). take at before ++ z) (sym e);
+      ends = omega (arith, a .ends, b .ends, ap length e, length-append u v);
+    }
+
+-- the letters of the parts with these apexes
+
+parts-of-append : (c x ms ns : List ℕ)
+    → length (partsOf c (ms ++ ns) x) ≡ length (partsOf c ms x) + length (partsOf c ns x)
+parts-of-append c x ms ns =
+    ap length (shares-append (alphabet c) (label (alphabet c) x) ms ns x)
+    ∙ length-append (partsOf c ms x) (partsOf c ns x)
+
+parts-of-all : (c x : List ℕ) → length (partsOf c (apexes (alphabet c) x) x) ≡ length x
+parts-of-all c x = sym (~-length (alphabet c) (apexes-~ (alphabet c) x))
+
+-- joined parts have as many letters in one core as in the other
+parts-of-joined : (c x y : List ℕ) → commands (alphabet c) x ≡ commands (alphabet c) y → (ms : List ℕ)
+    → Within ms (apexes (alphabet c) x) → parts-joined? (alphabet c) ms x y ≡ true
+    → length (partsOf c ms x) ≡ length (partsOf c ms y)
+unfolding shares parts-joined? part-ring
+parts-of-joined c x y same [] g t = refl
+parts-of-joined c x y same (m ∷ ms) g t =
+    let Γ = alphabet c in
+    let (r, s) = and-both (rotated? Γ (part-ring Γ m x) (part-ring Γ m y)) (parts-joined? Γ ms x y) t in
+    let i = g m (List·Memᴰ·head refl) in
+    let j = subst (λ (ks : List ℕ). m ∈ ks) (apexes-same Γ x y same) i in
+    let e : length (part Γ m x) ≡ length (part Γ m y) = parts-length Γ (apical-part Γ x i) (apical-part Γ y j) r in
+    omega (
+      arith,
+      e,
+      ap length (part-share Γ m x),
+      ap length (part-share Γ m y),
+      parts-of-joined c x y same ms (λ k o. g k (List·Memᴰ·tail o)) s,
+      length-append (share Γ (label Γ x) m x) (partsOf c ms x),
+      length-append (share Γ (label Γ y) m y) (partsOf c ms y),
+    )
+
+more-room : (n i j s at r : ℕ) → i ≤ n * j → at + n * (j + s) ≤ r → at + i + n * s ≤ r
+more-room n i j s at r h k = omega (arith, mul-add n j s)
+
+doubled : (n i l m : ℕ) → l ≡ m → i ≤ 2 * n * l → i ≤ n * (l + m)
+doubled n i l m e h =
+    let t : 2 * n ≡ n + n = omega arith in
+    omega (arith, ap (λ j. j * l) t, add-mul n n l, mul-add n l m, ap (λ j. n * j) e)
+
+module _ {c : List ℕ} {conflicts : List (List ℕ)} {x y fs labels : List ℕ} {rounds : ℕ}
+    (h : Leadable c conflicts x y fs labels rounds) where
+  pub sofar-start : (row : List ℕ) (at : ℕ) → Sofar c x y fs labels row at row at 0
+  sofar-start row at = record {
+    done = [];
+    left = 24;
+    count = refl;
+    all = apexes-from c x (h .flags) (h .two .first .labelled);
+    led = led-nothing c x y row at;
+  }
+
+  range : (j : ℕ) → Occurs (alphabet c) j x → (1 ≤ j) × (j ≤ rounds)
+  range = subst (λ n. (j : ℕ) → Occurs (alphabet c) j x → (1 ≤ j) × (j ≤ n)) (sym (h .enough))
+      (all-occurs (alphabet c) (λ j. (1 ≤ j) × (j ≤ Catalogue.commands c)) x
+      (all-map (λ b t. command-range (Catalogue.commands c) b (omega (arith, h .two .first .cyclic .few)) t) x
+      (h .two .first .cyclic .letters)))
+
+  -- the lead-ins of some of the apexes are short
+  led-short : {before after : List ℕ} {at end : ℕ} (ms : List ℕ) → Within ms (apexes (alphabet c) x)
+      → Led c x y ms before at after end
+      → length (parts-lead (alphabet c) ms x y) ≤ rounds * (length (partsOf c ms x) + length (partsOf c ms y))
+  led-short ms w l =
+      let e = parts-lead-length (alphabet c) x y (h .two .same) rounds range ms w (l .joined) in
+      doubled rounds (length (parts-lead (alphabet c) ms x y)) (length (partsOf c ms x)) (length (partsOf c ms y))
+      (parts-of-joined c x y (h .two .same) ms w (l .joined)) (omega arith)
+
+  module _ {before after : List ℕ} {at end k : ℕ} (s : Sofar c x y fs labels before at after end k) where
+    abbrev rest : List ℕ
+    rest = apexesFrom fs labels (s .left) k
+
+    within : Within (s .done) (apexes (alphabet c) x)
+    within j i = subst (λ (ms : List ℕ). j ∈ ms) (s .all) (Memᴰ·append-left rest i)
+
+    -- both cores' letters: those of the parts passed, and those of the parts left
+    first-all : length (partsOf c (s .done) x) + length (partsOf c rest x) ≡ length x
+    first-all = sym (parts-of-append c x (s .done) rest) ∙ ap (λ (ms : List ℕ). length (partsOf c ms x)) (s .all)
+        ∙ parts-of-all c x
+
+    second-all : length (partsOf c (s .done) y) + length (partsOf c rest y) ≡ length y
+    second-all = sym (parts-of-append c y (s .done) rest)
+        ∙ ap (λ (ms : List ℕ). length (partsOf c ms y)) (s .all ∙ apexes-same (alphabet c) x y (h .two .same))
+        ∙ parts-of-all c y
+
+    rest-next : k < 24 → (n : ℕ) × (n + (k + 1) ≡ 24) × (rest ≡ apexAt fs labels k ++ apexesFrom fs labels n (k + 1))
+    unfolding apexesFrom
+    rest-next l = go (s .left) (s .count)
+      where
+        go : (n : ℕ) → n + k ≡ 24 → (m : ℕ) × (m + (k + 1) ≡ 24)
+            × (apexesFrom fs labels n k ≡ apexAt fs labels k ++ apexesFrom fs labels m (k + 1))
+        go zero e = absurd (omega arith)
+        go (suc n) e = (n, omega arith, refl)
+
+    sofar-room : k < 24 → at + rounds * (length x + length y) ≤ length before → length after ≡ length before
+        → end + rounds * (length (partsOf c (apexAt fs labels k) x) + length (partsOf c (apexAt fs labels k) y))
+        ≤ length after
+    sofar-room l r e =
+        let (n, f, g) = rest-next l in
+        let a = apexAt fs labels k in
+        let m = apexesFrom fs labels n (k + 1) in
+        let one : length (partsOf c (s .done) x) + length (partsOf c a x) ≤ length x =
+        omega (arith, first-all, ap (λ (ms : List ℕ). length (partsOf c ms x)) g, parts-of-append c x a m) in
+        let two : length (partsOf c (s .done) y) + length (partsOf c a y) ≤ length y =
+        omega (arith, second-all, ap (λ (ms : List ℕ). length (partsOf c ms y)) g, parts-of-append c y a m) in
+        let d = length (partsOf c (s .done) x) + length (partsOf c (s .done) y) in
+        let b = length (partsOf c a x) + length (partsOf c a y) in
+        let t : d + b ≤ length x + length y = omega arith in
+        let q = more-room rounds (length (parts-lead (alphabet c) (s .done) x y)) d b at (length before)
+        (led-short (s .done) within (s .led)) (omega (arith, mul-le-mul-left rounds t)) in
+        omega (arith, q, s .led .ends)
+
+    pub sofar-again : {after′ : List ℕ} {end′ : ℕ} → k < 24 → Led c x y (apexAt fs labels k) after end after′ end′
+        → Sofar c x y fs labels before at after′ end′ (k + 1)
+    sofar-again l d =
+        let (n, f, g) = rest-next l in
+        record {
+          done = s .done ++ apexAt fs labels k;
+          left = n;
+          count = f;
+          all = append-assoc (s .done) (apexAt fs labels k) (apexesFrom fs labels n (k + 1))
+              ∙ ap (λ (z : List ℕ). s .done ++ z) (sym g) ∙ s .all;
+          led = led-append (s .done) (apexAt fs labels k) (s .led) d;
+        }
+
+    apart-all : k < 24 → parts-joined? (alphabet c) (apexAt fs labels k) x y ≡ false
+        → parts-joined? (alphabet c) (apexes (alphabet c) x) x y ≡ false
+    apart-all l e =
+        let (n, f, g) = rest-next l in
+        let m = apexesFrom fs labels n (k + 1) in
+        rw (
+          ← s .all,
+          joined-append (alphabet c) (s .done) rest x y,
+          s .led .joined,
+          g,
+          joined-append (alphabet c) (apexAt fs labels k) m x y,
+          e,
+        )
+
+    pub sofar-stop : (after′ : List ℕ) (o : Outcome) → k < 24 → Stops o
+        → Leads c x y (apexAt fs labels k) after end after′ o
+        → Leads c x y (apexes (alphabet c) x) before at after′ o
+    sofar-stop after′ (Joined e) l n d = absurd n
+    sofar-stop after′ Apart l n d = apart-all l d
+    sofar-stop after′ (Unsettled p) l n d = d
+
+    pub sofar-end : (k < 24 → ⊥) → Led c x y (apexes (alphabet c) x) before at after end
+    unfolding apexesFrom
+    sofar-end n = subst (λ (ms : List ℕ). Led c x y ms before at after end) (go (s .left) (s .count) (s .all)) (s .led)
+      where
+        go : (m : ℕ) → m + k ≡ 24 → s .done ++ apexesFrom fs labels m k ≡ apexes (alphabet c) x
+            → s .done ≡ apexes (alphabet c) x
+        go zero e f = sym (append-nil (s .done)) ∙ f
+        go (suc m) e f = absurd (n (omega arith))
+
+    -- so the next command can be tried
+    pub sofar-placeable : length after ≡ length before → k < 24
+        → at + rounds * (length x + length y) ≤ length before → Placeable c conflicts x y fs labels k rounds after end
+    sofar-placeable e l r = record { leadable = h; room = sofar-room l r e }
+
+-- what one step tells
+
+pub leads-joined : (c x y ms before : List ℕ) (at : ℕ) (after : List ℕ) {o : Outcome} {end : ℕ}
+    → Leads c x y ms before at after o → o ≡ Joined end → Led c x y ms before at after end
+leads-joined c x y ms before at after d e = subst (Leads c x y ms before at after) e d

@@ -1,0 +1,105 @@
+// The lead-in from one core to another: the lead-ins of their parts, one after the other.
+
+use array_row::same_bytes;
+use conjugacy_of_parts::Outcome;
+use conjugacy_of_parts::join_part;
+use conjugacy_parts::labels;
+use conjugacy_parts::occurring;
+use conjugacy_parts::same_commands;
+ghost use Prim.Native.Nat.{ℕ, _+_, _*_, _<_, _≤_};
+ghost use mathlib.Core.List.{List};
+ghost use lib.ListN.{length};
+ghost use Rattle.input_plan.specs.Letters.{alphabet};
+ghost use Rattle.theory_conjugacy.specs.Part.{apexes};
+ghost use Rattle.conjugacy_of_parts.specs.Lead.{Leads};
+ghost use Rattle.conjugacy_of_cores.specs.Pair.{apexAt, Leadable, Placeable, Coreable, CoresLead};
+
+// The lead-in of the part of command k + 1, if it occurs and is the apex of its part, behind the first bytes of the
+// row.
+fn join_at(
+    x: &[u8],
+    y: &[u8],
+    flags: &[u16; 24],
+    labels: &[u8; 24],
+    k: usize,
+    rounds: usize,
+    conflicts: &[[u16; 24]; 24],
+    row: &mut [u8],
+    at: usize,
+) -> Outcome
+    requires { ⌜ (k < 24) × ((c : List ℕ) × Placeable c (now conflicts) (now x) (now y) (now flags) (now labels) k
+        rounds (now row) at) ⌝ }
+    ensures { λ r. ⌜ ((c : List ℕ)
+        → Placeable c (now (conflicts .entry)) (now (x .entry)) (now (y .entry)) (now (flags .entry))
+        (now (labels .entry)) k rounds (now (row .entry)) at
+        → Leads c (now (x .entry)) (now (y .entry)) (apexAt (now (flags .entry)) (now (labels .entry)) k)
+        (now (row .entry)) at (now (row .exit)) r) ⌝ }
+{
+    if flags[k] != 1 {
+        return Outcome::Joined(at);
+    }
+    if labels[k] != (k + 1) as u8 {
+        return Outcome::Joined(at);
+    }
+    join_part(x, y, labels, labels[k], rounds, conflicts, row, at)
+}
+
+// The lead-ins of all parts, one after the other.
+fn join_parts(
+    x: &[u8],
+    y: &[u8],
+    flags: &[u16; 24],
+    labels: &[u8; 24],
+    rounds: usize,
+    conflicts: &[[u16; 24]; 24],
+    row: &mut [u8],
+    at: usize,
+) -> Outcome
+    requires { ⌜ ((c : List ℕ)
+        × Leadable c (now conflicts) (now x) (now y) (now flags) (now labels) rounds
+        × (at + rounds * (length (now x) + length (now y)) ≤ length (now row))) ⌝ }
+    ensures { λ r. ⌜ ((c : List ℕ)
+        → Leadable c (now (conflicts .entry)) (now (x .entry)) (now (y .entry)) (now (flags .entry))
+        (now (labels .entry)) rounds
+        → Leads c (now (x .entry)) (now (y .entry)) (apexes (alphabet c) (now (x .entry))) (now (row .entry)) at
+        (now (row .exit)) r) ⌝ }
+{
+    let mut end = at;
+    let mut k = 0;
+    while k < 24 {
+        let way = join_at(x, y, flags, labels, k, rounds, conflicts, row, end);
+        let Outcome::Joined(next) = way else {
+            return way;
+        };
+        end = next;
+        k += 1;
+    }
+    Outcome::Joined(end)
+}
+
+// The lead-in from one core to another, behind the first bytes of the row: none where they are the same. Cores in which
+// other commands occur are apart.
+pub fn join_cores(
+    x: &[u8],
+    y: &[u8],
+    rounds: usize,
+    conflicts: &[[u16; 24]; 24],
+    row: &mut [u8],
+    at: usize,
+) -> Outcome
+    requires { ⌜ ((c : List ℕ) × Coreable c (now conflicts) (now x) (now y) rounds (now row) at) ⌝ }
+    ensures { λ r. ⌜ ((c : List ℕ)
+        → Coreable c (now (conflicts .entry)) (now (x .entry)) (now (y .entry)) rounds (now (row .entry)) at
+        → CoresLead c (now (x .entry)) (now (y .entry)) (now (row .entry)) at (now (row .exit)) r) ⌝ }
+{
+    if same_bytes(x, y) {
+        return Outcome::Joined(at);
+    }
+    let flags = occurring(x);
+    let others = occurring(y);
+    if !same_commands(&flags, &others) {
+        return Outcome::Apart;
+    }
+    let names = labels(&flags, conflicts);
+    join_parts(x, y, &flags, &names, rounds, conflicts, row, at)
+}

@@ -1,0 +1,188 @@
+-- Both rings can be found, neither part is unsettled, and the way from ring to ring is the lead-in of the part.
+-- Assumes nothing.
+use Prim.Native.Nat.{ℕ}
+use mathlib.Core.List.{List}
+use borrow.Author.Needs.{needs}
+use Rattle.conjugacy_ring.specs.Ring.{Ringable, Rung}
+use Rattle.conjugacy_of_parts.specs.Lead.{Partable}
+use Rattle.conjugacy_of_parts.specs.PartLaws.{rings-of, rung-count, rung-fits, part-first, part-second, first-settled}
+use Rattle.conjugacy_of_parts.specs.PartLaws.{second-settled, way-turnable, way-cycled, way-leads}
+use Rattle.conjugacy_of_parts.proofs.join_part.Statement.{statement}
+use Rattle.conjugacy_of_parts.proofs.join_part.Tie as tie
+
+-- places on the way
+
+abbrev start : tie.After-ring-of → tie.Start
+start a = a .before .before .before .before .before .before .before .before
+
+abbrev ringed : tie.After-first → tie.After-ring-of
+ringed p = p .before .before .before .before .before
+
+abbrev known : tie.After-ring-of2 → tie.After-first
+known b = b .before .before .before .before
+
+abbrev ringed2 : tie.After-second → tie.After-ring-of2
+ringed2 q = q .before .before .before .before .before
+
+abbrev first : tie.After-second → tie.After-first
+first q = known (ringed2 q)
+
+-- what is asked, for one catalogue
+abbrev Asked : tie.After-ring-of → List ℕ → Type 0
+Asked a k =
+    let s = start a .args in
+    Partable k (s .conflicts .now) (s .x .now) (s .y .now) (s .labels .now) (s .apex) (s .rounds) (s .row .now) (s .at)
+
+first-asked : (a : tie.After-ring-of) (k : List ℕ) → Asked a k
+    → (let s = start a .args in Ringable k (s .conflicts .now) (s .x .now) (s .labels .now) (s .apex) (s .rounds)
+    (a .before .before .before .before .sheet .result) (s .row .now) (s .at))
+first-asked a k h = part-first h _ (a .before .before .before .before .sheet .ensures)
+
+-- the rings found
+
+one : (p : tie.After-first) (k : List ℕ) → Asked (ringed p) k
+    → (let a = ringed p in let s = start a .args in
+    Rung k (s .x .now) (s .apex) (a .ring-of .last .1 .1 .1 .1 .1 .0) (s .row .now)
+    (a .ring-of .last .1 .1 .1 .1 .1 .1 .0) (s .at) (p .first .given .0 .0))
+one p k h = rings-of k _ _ _ _ _ _ _ (ringed p .ring-of .ensures k (first-asked (ringed p) k h)) (p .first .given .1)
+
+second-asked : (p : tie.After-first) (k : List ℕ) → Asked (ringed p) k
+    → (let a = ringed p in let s = start a .args in
+    Ringable k (s .conflicts .now) (s .y .now) (s .labels .now) (s .apex) (s .rounds)
+    (a .before .before .before .sheet2 .result)
+    (a .ring-of .last .1 .1 .1 .1 .1 .1 .0) (p .first .given .0 .0 .cycled))
+second-asked p k h =
+    let a = ringed p in
+    part-second h (one p k h) (a .ring-of .kept .1 .1 .1 .1 .1 .1 .0) _ (a .before .before .before .sheet2 .ensures)
+
+two : (q : tie.After-second) (k : List ℕ) → Asked (ringed (first q)) k
+    → (let p = first q in let s = start (ringed p) .args in
+    Rung k (s .y .now) (s .apex) (ringed2 q .ring-of2 .last .1 .1 .1 .1 .1 .0)
+    (ringed p .ring-of .last .1 .1 .1 .1 .1 .1 .0) (ringed2 q .ring-of2 .last .1 .1 .1 .1 .1 .1 .0)
+    (p .first .given .0 .0 .cycled) (q .second .given .0 .0))
+two q k h =
+    rings-of k _ _ _ _ _ _ _ (ringed2 q .ring-of2 .ensures k (second-asked (first q) k h)) (q .second .given .1)
+
+sheet-requires : tie.Need-sheet-requires
+sheet-requires c κs = search needs
+
+sheet-requires-2 : tie.Need-sheet-requires-2
+sheet-requires-2 c κs = search needs
+
+slice-aggregate-ring-of : tie.Need-slice-aggregate-ring-of
+slice-aggregate-ring-of c = search needs
+
+ring-of-requires : tie.Need-ring-of-requires
+ring-of-requires c κs =
+    let s = c .before .before .before .before .before .before .before in
+    (s .pre .0, part-first (s .pre .1) _ (c .before .before .before .sheet .ensures))
+
+enum-known-first : tie.Need-enum-known-first
+enum-known-first c = search needs
+
+enum-told : tie.Need-enum-told
+enum-told c = search needs
+
+same-length : tie.Need-same-length
+same-length c = search needs
+
+returns : tie.Need-returns
+returns c =
+    let a = c .before .before .before .before .before in
+    λ k h. absurd (first-settled h _ _ _ (a .ring-of .ensures k (first-asked a k h)) (c .enum-told .given .1))
+
+slice-aggregate-ring-of-2 : tie.Need-slice-aggregate-ring-of-2
+slice-aggregate-ring-of-2 c = search needs
+
+ring-of-requires-2 : tie.Need-ring-of-requires-2
+ring-of-requires-2 c κs =
+    let p = c .before .before .before in
+    let (k, h) = start (ringed p) .pre in
+    (k, second-asked p k h)
+
+enum-known-second : tie.Need-enum-known-second
+enum-known-second c = search needs
+
+enum-told-2 : tie.Need-enum-told-2
+enum-told-2 c = search needs
+
+same-length-2 : tie.Need-same-length-2
+same-length-2 c = search needs
+
+returns-2 : tie.Need-returns-2
+returns-2 c =
+    let b = c .before .before .before .before .before in
+    λ k h.
+    absurd (second-settled h _ _ _ _ (b .ring-of2 .ensures k (second-asked (known b) k h)) (c .enum-told2 .given .1))
+
+array-share-prefix-ring : tie.Need-array-share-prefix-ring
+array-share-prefix-ring c =
+    let p = first (c .before) in
+    let (k, h) = start (ringed p) .pre in
+    rung-fits (one p k h)
+
+slice-aggregate-join-rings : tie.Need-slice-aggregate-join-rings
+slice-aggregate-join-rings c =
+    let p = first (c .before .before) in
+    let (k, h) = start (ringed p) .pre in
+    rung-count (one p k h)
+
+array-share-prefix-other : tie.Need-array-share-prefix-other
+array-share-prefix-other c =
+    let q = c .before .before in
+    let (k, h) = start (ringed (first q)) .pre in
+    rung-fits (two q k h)
+
+slice-aggregate-join-rings-2 : tie.Need-slice-aggregate-join-rings-2
+slice-aggregate-join-rings-2 c =
+    let q = c .before .before .before in
+    let (k, h) = start (ringed (first q)) .pre in
+    rung-count (two q k h)
+
+join-rings-requires : tie.Need-join-rings-requires
+join-rings-requires c κs =
+    let q = c .before .before .before .before in
+    let a = ringed (first q) in
+    let (k, h) = start a .pre in
+    way-turnable h (one (first q) k h) (a .ring-of .kept .1 .1 .1 .1 .1 .1 .0) (two q k h)
+    (ringed2 q .ring-of2 .kept .1 .1 .1 .1 .1 .1 .0)
+
+same-length-3 : tie.Need-same-length-3
+same-length-3 c = search needs
+
+returns-3 : tie.Need-returns-3
+returns-3 c =
+    let q = c .before .before .before .before .before .before .before in
+    let j = c .before .before .join-rings in
+    let m = ringed (first q) .ring-of .kept .1 .1 .1 .1 .1 .1 .0 in
+    let n = ringed2 q .ring-of2 .kept .1 .1 .1 .1 .1 .1 .0 in
+    λ k h.
+    let f = one (first q) k h in
+    let g = two q k h in
+    way-leads h f m g n (j .last .1 .1 .0) (j .result) (j .ensures k _ (way-cycled h f m g n))
+
+pub join-part-spec : {M : Type 1} → statement M
+join-part-spec =
+    tie.close
+    (tie.spec
+    sheet-requires
+    sheet-requires-2
+    slice-aggregate-ring-of
+    ring-of-requires
+    enum-known-first
+    enum-told
+    same-length
+    returns
+    slice-aggregate-ring-of-2
+    ring-of-requires-2
+    enum-known-second
+    enum-told-2
+    same-length-2
+    returns-2
+    array-share-prefix-ring
+    slice-aggregate-join-rings
+    array-share-prefix-other
+    slice-aggregate-join-rings-2
+    join-rings-requires
+    same-length-3
+    returns-3)

@@ -1,0 +1,187 @@
+-- The lead-in of one part: the rings of both parts can be found, the way from one to the other has room, and what is
+-- written is the lead-in.
+use Prim.Native.Nat.{ℕ, suc, _+_, _*_, _-_, _≤_}
+use native.Mathlib.Omega.{arith}
+use native.Mathlib.Nat.{mul-add, add-mul}
+use mathlib.Core.Path.{_≡_, sym, _∙_, ap, subst}
+use mathlib.Core.Bool.{false}
+use mathlib.Core.List.{List, [], _∷_, _++_, append-assoc, append-nil}
+use lib.ListN.{length, take, length-append, length-take}
+use lib.Seq.{length-take-le, take-take, take-at}
+use Rattle.theory_words.specs.Group.{undo}
+use Rattle.input_plan.specs.Letters.{alphabet}
+use Rattle.theory_conjugacy.specs.AscendingLaws.{_∈_}
+use Rattle.theory_conjugacy.specs.Part.{apexes, part}
+use Rattle.theory_conjugacy.specs.PartLaws.{apexes-same}
+use Rattle.theory_conjugacy.specs.Rotation.{rotation}
+use Rattle.theory_conjugacy.specs.Decision.{part-ring, rotated?, parts-joined?}
+use Rattle.theory_conjugacy.specs.LeadIn.{place, settling, part-lead, parts-lead}
+use Rattle.theory_conjugacy.specs.LeadInLaws.{apical-part, ring-length}
+use Rattle.conjugacy_ring.specs.declared.Ends.{Ends}
+use Rattle.conjugacy_ring.specs.declared.Ringed.{Ringed}
+use Rattle.conjugacy_ring.specs.declared.Ringed.the-variants as ringed
+use Rattle.conjugacy_ring.specs.Ring.{Ringable, Rung, Rings}
+use Rattle.conjugacy_ring.specs.RingLaws.{apex-some, apex-quiet, apex-cycled}
+use Rattle.conjugacy_of_parts.specs.declared.Outcome.{Outcome}
+use Rattle.conjugacy_of_parts.specs.declared.Outcome.the-variants.{Joined, Apart, Unsettled}
+use Rattle.conjugacy_of_parts.specs.Lead.{Turnable, Turned, Turns, Partable, Led, Leads}
+
+pub rings-of : (c x : List ℕ) (apex rounds : ℕ) (ring out out′ : List ℕ) (at : ℕ) {r : Ringed} {e : Ends}
+    → Rings c x apex rounds ring out out′ at r → r ≡ ringed.Of e → Rung c x apex ring out out′ at e
+rings-of c x apex rounds ring out out′ at h e = subst (Rings c x apex rounds ring out out′ at) e h
+
+-- a ring that is lent
+
+module _ {c x : List ℕ} {apex : ℕ} {ring out out′ : List ℕ} {at : ℕ} {e : Ends}
+    (h : Rung c x apex ring out out′ at e) where
+  pub rung-count : e .ring ≡ length (take (e .ring) ring)
+  rung-count = h .count ∙ ap length (sym (h .ring))
+
+  pub rung-fits : e .ring ≤ length ring
+  rung-fits = omega (arith, rung-count, length-take (e .ring) ring)
+
+-- room for both settlings, and for the ring behind them
+behind-first : (n l m i at r : ℕ) → i + n ≤ n * l → at + suc n * (l + m) ≤ r → at + i + suc n * m ≤ r
+behind-first n l m i at r a k =
+    let e : suc n ≡ 1 + n = omega arith in
+    omega (arith, mul-add (suc n) l m, ap (λ j. j * l) e, add-mul 1 n l)
+
+behind-both : (n l m i j at r : ℕ) → i + n ≤ n * l → j + n ≤ n * m → at + suc n * (l + m) ≤ r → at + i + j + l ≤ r
+behind-both n l m i j at r a b k =
+    let e : suc n ≡ 1 + n = omega arith in
+    omega (arith, mul-add (suc n) l m, ap (λ j. j * l) e, add-mul 1 n l, ap (λ j. j * m) e, add-mul 1 n m)
+
+module _ {c : List ℕ} {conflicts : List (List ℕ)} {x y labels : List ℕ} {apex rounds : ℕ} {row : List ℕ} {at : ℕ}
+    (k : Partable c conflicts x y labels apex rounds row at) where
+  abbrev p : List ℕ
+  p = part (alphabet c) apex x
+
+  abbrev q : List ℕ
+  q = part (alphabet c) apex y
+
+  part-apex : apex ∈ apexes (alphabet c) y
+  part-apex = subst (λ (ms : List ℕ). apex ∈ ms) (apexes-same (alphabet c) x y (k .two .same)) (k .apical)
+
+  -- the rounds but one, and what they cycle
+  abbrev less : ℕ
+  less = rounds - 1
+
+  rounds-less : rounds ≡ suc less
+  rounds-less = omega (arith, apex-some (k .two .first .cyclic) (k .apical) (k .enough))
+
+  first-cycled : length (settling (alphabet c) apex p) + less ≤ less * length p
+  first-cycled = apex-cycled (k .two .first .cyclic) (k .apical) (k .enough) less rounds-less
+
+  second-cycled : length (settling (alphabet c) apex q) + less ≤ less * length q
+  second-cycled = apex-cycled (k .two .second .cyclic) part-apex (k .enough) less rounds-less
+
+  whole-room : at + suc less * (length p + length q) ≤ length row
+  whole-room = subst (λ m. at + m * (length p + length q) ≤ length row) rounds-less (k .room)
+
+  pub part-first : (ring : List ℕ) → length ring ≡ 1024 → Ringable c conflicts x labels apex rounds ring row at
+  part-first ring e = record {
+    core = k .two .first;
+    apical = k .apical;
+    enough = k .enough;
+    fits = omega (arith, k .two .first .cyclic .short);
+    room = omega (arith, k .room, mul-add rounds (length p) (length q));
+  }
+
+  -- neither is unsettled
+  pub first-settled : (ring out out′ : List ℕ) {r : Ringed} → Rings c x apex rounds ring out out′ at r
+      → r ≡ ringed.Unsettled → ⊥
+  first-settled ring out out′ h e =
+      subst (Rings c x apex rounds ring out out′ at) e h (apex-quiet (k .two .first .cyclic) (k .apical) (k .enough))
+
+  pub second-settled : (ring out out′ : List ℕ) (from : ℕ) {r : Ringed} → Rings c y apex rounds ring out out′ from r
+      → r ≡ ringed.Unsettled → ⊥
+  second-settled ring out out′ from h e =
+      subst (Rings c y apex rounds ring out out′ from) e h
+      (apex-quiet (k .two .second .cyclic) part-apex (k .enough))
+
+  -- behind what settling the first cycles
+  module _ {ring row′ : List ℕ} {one : Ends} (f : Rung c x apex ring row row′ at one)
+      (same : length row′ ≡ length row) where
+    first-room : one .cycled + suc less * length q ≤ length row′
+    first-room =
+        let w = behind-first less (length p) (length q) (length (settling (alphabet c) apex p)) at (length row)
+        first-cycled whole-room in
+        omega (arith, w, f .end)
+
+    pub part-second : (other : List ℕ) → length other ≡ 1024
+        → Ringable c conflicts y labels apex rounds other row′ (one .cycled)
+    part-second other e = record {
+      core = k .two .second;
+      apical = part-apex;
+      enough = k .enough;
+      fits = omega (arith, k .two .second .cyclic .short);
+      room = subst (λ m. one .cycled + m * length q ≤ length row′) (sym rounds-less) first-room;
+    }
+
+    -- the way from ring to ring
+    module _ {other row″ : List ℕ} {two : Ends} (g : Rung c y apex other row′ row″ (one .cycled) two)
+        (kept : length row″ ≡ length row′) where
+      first-length : length (take (one .ring) ring) ≡ length p
+      unfolding part-ring
+      first-length = ap length (f .ring) ∙ ring-length (alphabet c) (apical-part (alphabet c) x (k .apical))
+
+      pub way-turnable : Turnable (take (one .ring) ring) row″ (one .cycled) (two .cycled)
+      way-turnable =
+          let w = behind-both less (length p) (length q) (length (settling (alphabet c) apex p))
+          (length (settling (alphabet c) apex q)) at (length row) first-cycled second-cycled whole-room in
+          record {
+            ordered = omega (arith, g .end);
+            room = omega (arith, w, f .end, g .end, first-length);
+          }
+
+      -- what stands before the letters cycled is as it was
+      begins : take (one .cycled) row″ ≡ take (one .cycled) row′
+      begins =
+          let n : length (take (one .cycled) row′) ≡ one .cycled
+          = length-take-le (one .cycled) row′ (omega (arith, first-room)) in
+          sym (take-take (one .cycled) (two .cycled) row″ (omega (arith, g .end))) ∙ ap (take (one .cycled)) (g .cycled)
+          ∙ take-at (take (one .cycled) row′) (settling (alphabet c) apex q) (one .cycled) n
+
+      pub way-cycled : take (two .cycled) row″ ≡ take (one .cycled) row″ ++ settling (alphabet c) apex q
+      way-cycled = g .cycled ∙ ap (λ (z : List ℕ). z ++ settling (alphabet c) apex q) (sym begins)
+
+      -- the same with the rings themselves
+      turns-rings : (after : List ℕ) (o : Outcome)
+          → Turns c (take (one .ring) ring) (take (two .ring) other) (settling (alphabet c) apex q) row″
+          (one .cycled) after o
+          → Turns c (part-ring (alphabet c) apex x) (part-ring (alphabet c) apex y) (settling (alphabet c) apex q)
+          row″ (one .cycled) after o
+      turns-rings after o h = rw (← f .ring, ← g .ring) h
+
+      -- it is the lead-in of the part
+      part-led : (after : List ℕ) (end : ℕ)
+          → Turned c (part-ring (alphabet c) apex x) (part-ring (alphabet c) apex y) (settling (alphabet c) apex q)
+          row″ (one .cycled) after end
+          → Led c x y (apex ∷ []) row at after end
+      unfolding parts-joined? parts-lead part-lead part-ring
+      part-led after end h =
+          let r = part-ring (alphabet c) apex x in
+          let t = part-ring (alphabet c) apex y in
+          let u = settling (alphabet c) apex p in
+          let w : List ℕ =
+          take (place (rotation (alphabet c) r t)) r ++ undo (alphabet c) (settling (alphabet c) apex q) [] in
+          let e : parts-lead (alphabet c) (apex ∷ []) x y ≡ u ++ w = append-nil (u ++ w) in
+          record {
+            joined = rw (h .joined);
+            written = h .written ∙ ap (λ (z : List ℕ). z ++ w) (begins ∙ f .cycled) ∙ append-assoc (take at row) u w
+                ∙ ap (λ (z : List ℕ). take at row ++ z) (sym e);
+            ends = omega (arith, h .ends, f .end, ap length e, length-append u w);
+          }
+
+      part-apart : rotated? (alphabet c) (part-ring (alphabet c) apex x) (part-ring (alphabet c) apex y) ≡ false
+          → parts-joined? (alphabet c) (apex ∷ []) x y ≡ false
+      unfolding parts-joined?
+      part-apart h = rw h
+
+      pub way-leads : (after : List ℕ) (o : Outcome)
+          → Turns c (take (one .ring) ring) (take (two .ring) other) (settling (alphabet c) apex q) row″ (one .cycled)
+          after o
+          → Leads c x y (apex ∷ []) row at after o
+      way-leads after (Joined end) h = part-led after end (turns-rings after (Joined end) h)
+      way-leads after Apart h = part-apart (turns-rings after Apart h)
+      way-leads after (Unsettled n) h = h

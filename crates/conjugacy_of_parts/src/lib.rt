@@ -1,0 +1,76 @@
+// The lead-in from one part of a core to the same part of another: the letters that settling the first cycles, the ring
+// up to the place at which the rings agree, and the letters that settling the second cycles, undone.
+
+use array_row::append_undone;
+use array_row::undo_between;
+use conjugacy_ring::Ringed;
+use conjugacy_ring::ring_of;
+use conjugacy_ring::sheet;
+use conjugacy_rotation::Start;
+use conjugacy_rotation::rotation;
+ghost use Prim.Native.Nat.{ℕ};
+ghost use mathlib.Core.Path.{_≡_};
+ghost use mathlib.Core.List.{List, [], _∷_, _++_};
+ghost use lib.ListN.{take};
+ghost use Rattle.conjugacy_of_parts.specs.Lead.{Turnable, Turns, Partable, Leads};
+
+// Two loops are joined, by a lead-in that ends here, or apart; or a part of plan 1 or 2 is unsettled.
+pub enum Outcome {
+    Joined(usize),
+    Apart,
+    Unsettled(u8),
+}
+
+// The way from a ring to another, behind the first bytes of the row: the ring up to the place at which the rings
+// agree, and the letters cycled, undone. Those stand in the row up to `at`; the ring's letters are put behind them,
+// undone, and then all of it is undone where it stands.
+fn join_rings(ring: &[u8], other: &[u8], row: &mut [u8], from: usize, at: usize) -> Outcome
+    requires { ⌜ Turnable (now ring) (now row) from at ⌝ }
+    ensures { λ r. ⌜ ((c cycled : List ℕ) → take at (now (row .entry)) ≡ take from (now (row .entry)) ++ cycled
+        → Turns c (now (ring .entry)) (now (other .entry)) cycled (now (row .entry)) from (now (row .exit)) r) ⌝ }
+{
+    let found = rotation(ring, other);
+    let Start::At(start) = found else {
+        return Outcome::Apart;
+    };
+    let end = append_undone(row, at, &ring[..start]);
+    undo_between(row, from, end);
+    Outcome::Joined(end)
+}
+
+// The lead-in from the first core's part with this apex to the second's, behind the first bytes of the row.
+pub fn join_part(
+    x: &[u8],
+    y: &[u8],
+    labels: &[u8; 24],
+    apex: u8,
+    rounds: usize,
+    conflicts: &[[u16; 24]; 24],
+    row: &mut [u8],
+    at: usize,
+) -> Outcome
+    requires { ⌜ ((c : List ℕ) × Partable c (now conflicts) (now x) (now y) (now labels) apex rounds (now row) at) ⌝ }
+    ensures { λ r. ⌜ ((c : List ℕ)
+        → Partable c (now (conflicts .entry)) (now (x .entry)) (now (y .entry)) (now (labels .entry)) apex rounds
+        (now (row .entry)) at
+        → Leads c (now (x .entry)) (now (y .entry)) (apex ∷ []) (now (row .entry)) at (now (row .exit)) r) ⌝ }
+{
+    let mut ring = sheet();
+    let mut other = sheet();
+    let first = ring_of(x, labels, apex, rounds, conflicts, &mut ring, row, at);
+    let Ringed::Of(one) = first else {
+        return Outcome::Unsettled(1);
+    };
+    let end = one.cycled;
+    let second = ring_of(y, labels, apex, rounds, conflicts, &mut other, row, end);
+    let Ringed::Of(two) = second else {
+        return Outcome::Unsettled(2);
+    };
+    join_rings(
+        &ring[..one.ring],
+        &other[..two.ring],
+        row,
+        one.cycled,
+        two.cycled,
+    )
+}

@@ -1,0 +1,104 @@
+-- The row has room for each word appended, and the word in it is a lead-in. Assumes nothing.
+use Prim.Native.Nat.{ℕ}
+use mathlib.Core.List.{List}
+use native.Mathlib.Omega.{arith}
+use borrow.Author.Needs.{needs}
+use Rattle.conjugacy_of_cores.specs.Pair.{CoresLead, CoresLed}
+use Rattle.conjugacy_of_parts.proofs.OutcomeLaws.{stops}
+use Rattle.conjugacy_of_plans.specs.Join.{Cores}
+use Rattle.conjugacy_of_plans.specs.JoinLaws.{join-off, join-coreable, join-short, join-stop, join-word, cores-led}
+use Rattle.conjugacy_of_plans.proofs.lead.Statement.{statement}
+use Rattle.conjugacy_of_plans.proofs.lead.Tie as tie
+
+-- places on the way
+
+abbrev begun : tie.After-join-cores → tie.After-append
+begun j = j .before .before .before .before
+
+abbrev start : tie.After-join-cores → tie.Start
+start j = begun j .before .before .before .before .before .before .before
+
+abbrev led : tie.After-way → tie.After-join-cores
+led q = q .before .before .before .before
+
+-- what is asked, for one catalogue and two plans
+abbrev Asked : tie.After-join-cores → List ℕ → List ℕ → List ℕ → Type 0
+Asked j k v w =
+    let s = start j .args in
+    Cores k (s .conflicts .now) v w (s .x .now) (s .g .now) (s .y .now) (s .h .now) (s .commands)
+
+-- what the way from core to core tells
+way : (j : tie.After-join-cores) (k v w : List ℕ) → Asked j k v w
+    → (let s = start j .args in let a = begun j .append in
+    CoresLead k (s .x .now) (s .y .now) (a .last .0) (a .result) (j .join-cores .last .1 .1 .1 .1 .0)
+    (j .join-cores .result))
+way j k v w p =
+    j .join-cores .ensures k (join-coreable p (start j .args .row .now) (start j .pre .4) (begun j .append .ensures))
+
+way-led : (q : tie.After-way) (k v w : List ℕ) → Asked (led q) k v w
+    → (let j = led q in let s = start j .args in let a = begun j .append in
+    CoresLed k (s .x .now) (s .y .now) (a .last .0) (a .result) (j .join-cores .last .1 .1 .1 .1 .0)
+    (q .way .given .0 .0))
+way-led q k v w p = cores-led k _ _ _ _ _ (way (led q) k v w p) (q .way .given .1)
+
+append-requires : tie.Need-append-requires
+append-requires c κs =
+    let s = c .before .before .before .before .before .before in
+    join-off (s .pre .3) (s .args .row .now) (s .pre .4)
+
+join-cores-requires : tie.Need-join-cores-requires
+join-cores-requires c κs =
+    let a = c .before .before .before in
+    let s = a .before .before .before .before .before .before .before in
+    (s .pre .0, join-coreable (s .pre .3) (s .args .row .now) (s .pre .4) (a .append .ensures))
+
+enum-known-way : tie.Need-enum-known-way
+enum-known-way c = search needs
+
+same-length : tie.Need-same-length
+same-length c = search needs
+
+returns : tie.Need-returns
+returns c =
+    let j = c .before .before .before in
+    let o = j .join-cores in
+    λ k v w p.
+    join-stop p _ _ (o .last .1 .1 .1 .1 .0) (o .result) (stops (o .result) (c .match .keys2)) (way j k v w p)
+
+append-undone-requires : tie.Need-append-undone-requires
+append-undone-requires c κs =
+    let q = c .before .before in
+    let j = led q in
+    let a = begun j .append in
+    let (k, v, w, p, r) = start j .pre in
+    let l = join-short p (start j .args .row .now) r (a .ensures) (way-led q k v w p) in
+    omega (arith, l, j .join-cores .kept .1 .1 .1 .1 .0, a .kept .0)
+
+same-length-2 : tie.Need-same-length-2
+same-length-2 c = search needs
+
+returns-2 : tie.Need-returns-2
+returns-2 c =
+    let b = c .before .before in
+    let q = b .before .before .before in
+    let j = led q in
+    let a = begun j .append in
+    let row = start j .args .row .now in
+    let r = start j .pre .4 in
+    λ k v w p.
+    let l = join-short p row r (a .ensures) (way-led q k v w p) in
+    join-word p (a .ensures) (omega (arith, a .ensures .ends, join-off p row r)) (way-led q k v w p)
+    (b .append-undone .ensures) (omega (arith, l, j .join-cores .kept .1 .1 .1 .1 .0, a .kept .0))
+
+pub lead-spec : {M : Type 1} → statement M
+lead-spec =
+    tie.close
+    (tie.spec
+    append-requires
+    join-cores-requires
+    enum-known-way
+    same-length
+    returns
+    append-undone-requires
+    same-length-2
+    returns-2)

@@ -1,0 +1,162 @@
+-- Joining two plans: what each step asks follows from the plans and the rows, and the word in the row is a lead-in.
+use Prim.Native.Nat.{ℕ, zero, suc, _+_, _*_, _≤_}
+use native.Mathlib.Omega.{arith}
+use native.Mathlib.Nat.{mul-le-mul-right, mul-add}
+use mathlib.Core.Path.{_≡_, refl, sym, _∙_, ap, subst, subst₂}
+use mathlib.Core.List.{List, [], _++_, append-assoc}
+use lib.ListN.{length, take, length-take}
+use Rattle.theory_words.specs.TraceLaws.{~-sym}
+use Rattle.theory_conjugacy.specs.TurnLaws.{round-~}
+use Rattle.theory_conjugacy.specs.CoreLaws.{core-round}
+use Rattle.input_catalogue.specs.Catalogue.{commands}
+use Rattle.input_plan.specs.Area.{StartsWith}
+use Rattle.input_plan.specs.AreaLaws.{starts-area}
+use Rattle.input_plan.specs.Letters.{letters, alphabet, undoneBefore, normalForm}
+use Rattle.input_plan.specs.LettersLaws.{letters-length, commands-passing}
+use Rattle.long_reduction.specs.Reducing.{Given}
+use Rattle.long_wordform.specs.Forming.{Formable}
+use Rattle.array_row.specs.Row.{Appended}
+use Rattle.array_row.specs.RowLaws.{appended-take, appended-length, undone-length}
+use Rattle.conjugacy_ring.specs.Ring.{Cyclic}
+use Rattle.conjugacy_of_parts.specs.declared.Outcome.{Outcome}
+use Rattle.conjugacy_of_parts.specs.declared.Outcome.the-variants.{Joined, Apart, Unsettled}
+use Rattle.conjugacy_of_parts.specs.Lead.{Stops}
+use Rattle.conjugacy_of_cores.specs.Pair.{Coreable, CoresLed, CoresLead}
+use Rattle.conjugacy_of_parts.specs.TurnLaws.{undone-undo}
+use Rattle.engine.specs.Passed.{Passed}
+use Rattle.conjugacy_of_plans.specs.VerdictLaws.{through, through-count}
+use Rattle.conjugacy_of_plans.specs.Stripped.{Stripped}
+use Rattle.conjugacy_of_plans.specs.StrippedLaws.{core-~, off-length, off-commands, no-letters, verdict}
+use Rattle.conjugacy_of_plans.specs.StrippedLaws.{through-joined, through-commands, through-room, through-short}
+use Rattle.conjugacy_of_plans.specs.StrippedLaws.{through-lead-in}
+use Rattle.conjugacy_of_plans.specs.Join.{Plans, Cores, crossRoom, LeadWord, LeadsWord, Told, joined, apart}
+
+-- a plan's core is cyclically reduced
+pub stripped-cyclic : {c : List ℕ} {conflicts : List (List ℕ)} {v x g : List ℕ} → Passed c conflicts v
+    → Stripped c v x g → Cyclic c conflicts x
+stripped-cyclic {c} {v = v} p k = record {
+  table = p .table;
+  few = p .few;
+  letters = off-commands c k (p .passing) .1;
+  round = round-~ (alphabet c) (~-sym (alphabet c) (core-~ c k)) (core-round (alphabet c) (letters v));
+  short = omega (arith, off-length c k, letters-length v, p .short);
+}
+
+-- room for the letters taken off and what as many rounds as commands cycle
+around : (n g x h y : ℕ) → (n ≡ 0 → (2 * g + x) + (2 * h + y) ≡ 0)
+    → g + n * (x + y) ≤ n * ((2 * g + x) + (2 * h + y))
+around zero g x h y z = let e = z refl in omega arith
+around (suc n) g x h y z =
+    let d = 2 * g + 2 * h in
+    let e : (2 * g + x) + (2 * h + y) ≡ d + (x + y) = omega arith in
+    let f : 1 * d ≤ suc n * d = mul-le-mul-right d (omega arith) in
+    omega (arith, f, mul-add (suc n) d (x + y), ap (λ m. suc n * m) e)
+
+module _ {c : List ℕ} {conflicts : List (List ℕ)} {v w x g y h : List ℕ} {n : ℕ}
+    (k : Cores c conflicts v w x g y h n) where
+  abbrev p : Plans c conflicts v w n
+  p = k .plans
+
+  -- the row and the way from core to core
+  module _ (row : List ℕ) (r : crossRoom n x g y h ≤ length row) where
+    begun : length g + n * (length x + length y) ≤ length row
+    begun =
+        let z = no-letters c k in
+        let e = around n (length g) (length x) (length h) (length y) (λ m. z (sym (p .many) ∙ m)) in
+        omega (arith, e, r)
+
+    pub join-off : 0 + length g ≤ length row
+    join-off = omega (arith, begun)
+
+    pub join-coreable : {row′ : List ℕ} {at : ℕ} → Appended row 0 g row′ at → Coreable c conflicts x y n row′ at
+    join-coreable a = record {
+      first = stripped-cyclic (p .first) (k .first);
+      second = stripped-cyclic (p .second) (k .second);
+      enough = p .many;
+      room = omega (arith, a .ends, begun, appended-length a (omega (arith, a .ends, begun)));
+    }
+
+    pub join-short : {row′ : List ℕ} {at end : ℕ} {row″ : List ℕ} → Appended row 0 g row′ at
+        → CoresLed c x y row′ at row″ end → end + length h ≤ length row
+    join-short a j =
+        let t = through-room c k (j .passage) in
+        let s = subst (λ m. length (through (alphabet c) g (j .word) h) ≤ crossRoom m x g y h) (sym (p .many)) t in
+        omega (arith, a .ends, j .ends, s, through-count (alphabet c) g (j .word) h, r)
+
+  -- the verdict, where there is no lead-in
+  pub join-stop : (before : List ℕ) (at : ℕ) (after : List ℕ) (o : Outcome) → Stops o
+      → CoresLead c x y before at after o → LeadsWord c v w after o
+  join-stop before at after (Joined e) s d = absurd s
+  join-stop before at after Apart s d = sym (verdict c k) ∙ d
+  join-stop before at after (Unsettled q) s d = d
+
+  -- the word in the row
+  pub join-word : {row row′ row″ row‴ : List ℕ} {at end last : ℕ} → Appended row 0 g row′ at → at ≤ length row
+      → CoresLed c x y row′ at row″ end → Appended row″ end (undoneBefore h []) row‴ last
+      → end + length h ≤ length row″ → LeadWord c v w row‴ last
+  join-word {row} {row′} {row″} {row‴} {at} {end} {last} a m j b f =
+      let u = j .word in
+      let t = through (alphabet c) g u h in
+      let e : take last row‴ ≡ t =
+      appended-take b (omega (arith, b .ends, undone-length h []))
+      ∙ ap (λ (z : List ℕ). z ++ undoneBefore h []) (j .written ∙ ap (λ (z : List ℕ). z ++ u) (appended-take a m))
+      ∙ append-assoc g u (undoneBefore h []) ∙ ap (λ (z : List ℕ). g ++ (u ++ z)) (undone-undo c h []) in
+      let s = through-short c k (j .passage) in
+      let q : last ≡ length t =
+      omega (arith, a .ends, j .ends, b .ends, undone-length h [], through-count (alphabet c) g u h) in
+      record {
+        joined = through-joined c k (j .passage);
+        count = q ∙ ap length (sym e);
+        letters = rw e (through-commands c k (j .passage));
+        short = omega (arith, q, s);
+        leads = rw e (through-lead-in c k (j .passage));
+      }
+
+-- what the way from core to core tells
+pub cores-led : (c x y before : List ℕ) (at : ℕ) (after : List ℕ) {o : Outcome} {end : ℕ}
+    → CoresLead c x y before at after o → o ≡ Joined end → CoresLed c x y before at after end
+cores-led c x y before at after d e = subst (CoresLead c x y before at after) e d
+
+-- the word in the row put in normal form
+
+pub word-led : (c v w row : List ℕ) {o : Outcome} {end : ℕ} → LeadsWord c v w row o → o ≡ Joined end
+    → LeadWord c v w row end
+word-led c v w row d e = subst (LeadsWord c v w row) e d
+
+pub word-stop : (c v w row area : List ℕ) (o : Outcome) → Stops o → LeadsWord c v w row o → Told c v w area o area
+word-stop c v w row area (Joined e) s d = absurd s
+word-stop c v w row area Apart s d = apart d
+word-stop c v w row area (Unsettled q) s d = absurd d
+
+module _ {c : List ℕ} {conflicts : List (List ℕ)} {v w : List ℕ} {n : ℕ} (p : Plans c conflicts v w n)
+    {row : List ℕ} {end : ℕ} (d : LeadWord c v w row end) where
+  word-short : end ≤ n * (length v + length w)
+  word-short = subst (λ m. end ≤ m * (length v + length w)) (sym (p .many)) (d .short)
+
+  pub word-fits : end ≤ length row
+  word-fits = omega (arith, d .count, length-take end row)
+
+  pub word-given : Given c conflicts (take end row)
+  word-given =
+      let e : n * (length v + length w) ≤ 24 * (length v + length w) =
+      mul-le-mul-right (length v + length w) (omega (arith, p .many, p .first .few)) in
+      record {
+        table = p .first .table;
+        few = p .first .few;
+        passing = commands-passing (commands c) (take end row) (d .letters);
+        short = omega (arith, d .count, word-short, p .first .short, p .second .short);
+      }
+
+  pub word-formable : {area : List ℕ} → n * (length v + length w) ≤ length area
+      → Formable 50176 c conflicts (take end row) area
+  word-formable f = record {
+    given = word-given;
+    short = word-given .short;
+    fits = omega (arith, d .count, word-short, letters-length (take end row));
+  }
+
+  pub word-told : {area after : List ℕ} {r : ℕ} → StartsWith (normalForm c (take end row)) area after r
+      → Told c v w area (Joined r) after
+  word-told {area} {after} {r} o =
+      subst₂ (λ m a. Told c v w area (Joined m) a) (sym (o .count)) (sym (starts-area o))
+      (joined (d .joined) (d .leads))

@@ -1,0 +1,182 @@
+-- The part copied can be settled, and the settled word is lent again for its normal form. Assumes nothing.
+use Prim.Native.Nat.{ℕ}
+use mathlib.Core.Path.{refl}
+use mathlib.Core.List.{List}
+use native.Mathlib.Omega.{arith}
+use lib.ListN.{take}
+use borrow.Author.Needs.{needs}
+use Rattle.input_plan.specs.Area.{StartsWith}
+use Rattle.input_plan.specs.AreaLaws.{starts-fits, starts-take, starts-count}
+use Rattle.input_plan.specs.Letters.{alphabet}
+use Rattle.theory_conjugacy.specs.Part as Part
+use Rattle.conjugacy_settling.specs.Settling.{Settleable, Ended}
+use Rattle.conjugacy_ring.specs.Ring.{Ringable}
+use Rattle.conjugacy_ring.specs.RingLaws.{cyclic-lettered, ringable-settle}
+use Rattle.conjugacy_ring.specs.RingLaws.{ringable-unsettled, answered-done, answered-unsettled, ended-take, ended-fits}
+use Rattle.conjugacy_ring.specs.RingLaws.{ended-count, ended-given, ended-formable, ended-rung}
+use Rattle.conjugacy_ring.proofs.ring_of.Statement.{statement}
+use Rattle.conjugacy_ring.proofs.ring_of.Tie as tie
+
+-- places on the way
+
+abbrev start : tie.After-part → tie.Start
+start p = p .before .before .before .before .before .before .before .before
+
+abbrev copy : tie.After-settle → tie.After-part
+copy t = t .before .before .before .before .before .before
+
+abbrev settling : tie.After-settled → tie.After-settle
+settling q = q .before .before .before .before .before .before .before
+
+-- what is asked, for one catalogue
+abbrev Asked : tie.After-part → List ℕ → Type 0
+Asked p k =
+    let s = start p .args in
+    Ringable k (s .conflicts .now) (s .core .now) (s .labels .now) (s .apex) (s .rounds) (s .ring .now)
+    (s .cycled .now) (s .at)
+
+copied : (p : tie.After-part) (k : List ℕ) → Asked p k
+    → (let s = start p .args in StartsWith (Part.part (alphabet k) (s .apex) (s .core .now))
+    (p .before .before .before .before .sheet .result) (p .part .last .1 .1 .1 .0) (p .part .result))
+copied p k h = p .part .ensures k (h .core .labelled)
+
+settleable : (p : tie.After-part) (k : List ℕ) → Asked p k
+    → (let s = start p .args in Settleable k (take (p .part .result) (p .part .last .1 .1 .1 .0)) (s .rounds)
+    (s .conflicts .now) (p .before .before .before .sheet2 .result) (p .before .before .sheet3 .result)
+    (s .cycled .now) (s .at))
+settleable p k h =
+    ringable-settle h (starts-take (copied p k h)) (p .before .before .before .sheet2 .ensures)
+    (p .before .before .sheet3 .ensures)
+
+-- the rounds were enough
+ended : (q : tie.After-settled) (k : List ℕ) → Asked (copy (settling q)) k
+    → (let p = copy (settling q) in let s = start p .args in let t = settling q .settle in
+    Ended k (s .apex) (s .rounds) (take (p .part .result) (p .part .last .1 .1 .1 .0)) (t .last .0) (s .cycled .now)
+    (t .last .1 .1 .1 .1 .1 .1 .0) (s .at) (q .settled .given .0 .0))
+ended q k h =
+    answered-done k _ _ _ _ _ _ _ (settling q .settle .ensures k (settleable (copy (settling q)) k h))
+    (q .settled .given .1)
+
+sheet-requires : tie.Need-sheet-requires
+sheet-requires c κs = search needs
+
+sheet-requires-2 : tie.Need-sheet-requires-2
+sheet-requires-2 c κs = search needs
+
+sheet-requires-3 : tie.Need-sheet-requires-3
+sheet-requires-3 c κs = search needs
+
+slice-aggregate-part : tie.Need-slice-aggregate-part
+slice-aggregate-part c = search needs
+
+part-requires : tie.Need-part-requires
+part-requires c κs =
+    let h = c .before .before .before .before .before .before .before .pre .1 .core .cyclic in
+    (cyclic-lettered h, omega (arith, h .short, c .before .before .before .sheet .ensures))
+
+array-borrow-prefix-word : tie.Need-array-borrow-prefix-word
+array-borrow-prefix-word c =
+    let p = c .before in
+    let (k, h) = start p .pre in
+    starts-fits (copied p k h)
+
+slice-aggregate-settle : tie.Need-slice-aggregate-settle
+slice-aggregate-settle c =
+    let p = c .before .before in
+    let (k, h) = start p .pre in
+    starts-count (copied p k h)
+
+slice-aggregate-settle-2 : tie.Need-slice-aggregate-settle-2
+slice-aggregate-settle-2 c = search needs
+
+slice-aggregate-settle-3 : tie.Need-slice-aggregate-settle-3
+slice-aggregate-settle-3 c = search needs
+
+settle-requires : tie.Need-settle-requires
+settle-requires c κs =
+    let p = c .before .before .before .before .before in
+    let (k, h) = start p .pre in
+    (k, settleable p k h)
+
+enum-known-settled : tie.Need-enum-known-settled
+enum-known-settled c = search needs
+
+enum-told : tie.Need-enum-told
+enum-told c = search needs
+
+same-length : tie.Need-same-length
+same-length c = search needs
+
+returns : tie.Need-returns
+returns c =
+    let t = c .before .before .before .before .before .before .before in
+    let p = copy t in
+    λ k h.
+    ringable-unsettled h (starts-take (copied p k h))
+    (answered-unsettled k _ _ _ _ _ _ _ (t .settle .ensures k (settleable p k h)) (c .enum-told .given .1))
+
+array-share-prefix-word : tie.Need-array-share-prefix-word
+array-share-prefix-word c =
+    let q = c .before in
+    let p = copy (settling q) in
+    let (k, h) = start p .pre in
+    let d = copied p k h in
+    ended-fits h (starts-take d) (ended q k h) _ _ (starts-count d)
+
+slice-aggregate-form : tie.Need-slice-aggregate-form
+slice-aggregate-form c =
+    let q = c .before .before in
+    let p = copy (settling q) in
+    let (k, h) = start p .pre in
+    let d = copied p k h in
+    ended-count h (starts-take d) (ended q k h) _ _ (starts-count d)
+
+form-requires : tie.Need-form-requires
+form-requires c κs =
+    let q = c .before .before .before in
+    let p = copy (settling q) in
+    let (k, h) = start p .pre in
+    let d = starts-take (copied p k h) in
+    let o = ended q k h in
+    (k, ended-formable h d o (ended-take h d o _ _ (starts-count (copied p k h))) refl)
+
+same-length-2 : tie.Need-same-length-2
+same-length-2 c = search needs
+
+same-length-3 : tie.Need-same-length-3
+same-length-3 c = search needs
+
+returns-2 : tie.Need-returns-2
+returns-2 c =
+    let q = c .before .before .before .before .before .before in
+    let p = copy (settling q) in
+    λ k h.
+    let d = starts-take (copied p k h) in
+    let o = ended q k h in
+    let f = ended-take h d o _ _ (starts-count (copied p k h)) in
+    ended-rung h d o f (c .before .before .form .ensures k (ended-given h d o f))
+
+pub ring-of-spec : {M : Type 1} → statement M
+ring-of-spec =
+    tie.close
+    (tie.spec
+    sheet-requires
+    sheet-requires-2
+    sheet-requires-3
+    slice-aggregate-part
+    part-requires
+    array-borrow-prefix-word
+    slice-aggregate-settle
+    slice-aggregate-settle-2
+    slice-aggregate-settle-3
+    settle-requires
+    enum-known-settled
+    enum-told
+    same-length
+    returns
+    array-share-prefix-word
+    slice-aggregate-form
+    form-requires
+    same-length-2
+    same-length-3
+    returns-2)

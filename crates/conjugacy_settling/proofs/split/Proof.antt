@@ -1,0 +1,72 @@
+-- `conjugacy_settling::split` meets its contract. The loop's invariant: the letters passed are split, and what the rest splits into
+-- comes behind them. Assumes nothing.
+use Prim.Native.Nat.{_-_}
+use native.Mathlib.Omega.{arith}
+use lib.ListN.{length}
+use Rattle.conjugacy_settling.specs.HalvingLaws.{Halving, halving-start, halving-place, halving-again, halving-lengths}
+use Rattle.conjugacy_settling.specs.HalvingLaws.{halving-end}
+use Rattle.conjugacy_settling.proofs.split.Statement.{statement}
+use Rattle.conjugacy_settling.proofs.split.Tie as tie
+
+abbrev Inv-loop : tie.InvT-loop
+Inv-loop word apex conflicts low₀ high₀ raised₀ ends₀ i₀ low high raised ends i =
+    Halving word apex conflicts low₀ high₀ low high raised ends i
+
+abbrev μ-loop : tie.MeasureT-loop
+μ-loop word apex conflicts low₀ high₀ raised₀ ends₀ i₀ low high raised ends i = length word - i
+
+none-requires : tie.Need-none-requires Inv-loop μ-loop
+none-requires c κs = tt
+
+loop-holds : tie.Need-loop-holds Inv-loop μ-loop
+loop-holds c = halving-start (c .none .ensures)
+
+shared-slice-read-place : tie.Need-shared-slice-read-place Inv-loop μ-loop
+shared-slice-read-place c = omega arith
+
+place-requires : tie.Need-place-requires Inv-loop μ-loop
+place-requires c κs =
+    let l = c .before .before .before .before .before in
+    halving-place (l .loop .inv) (l .before .before .before .before .before .pre .1) (omega arith)
+
+add-i : tie.Need-add-i Inv-loop μ-loop
+add-i c = omega arith
+
+loop-less : tie.Need-loop-less Inv-loop μ-loop
+loop-less c = omega arith
+
+loop-again : tie.Need-loop-again Inv-loop μ-loop
+loop-again c =
+    let p = c .before .before .before .before in
+    let l = p .before .before .before .before .before .before in
+    halving-again (l .loop .inv) (omega arith) (p .place .ensures)
+
+same-length : tie.Need-same-length Inv-loop μ-loop
+same-length c =
+    let l = c .before in
+    halving-lengths (l .loop .inv) (l .before .before .before .before .before .pre .1) .0
+
+same-length-2 : tie.Need-same-length-2 Inv-loop μ-loop
+same-length-2 c =
+    let l = c .before in
+    halving-lengths (l .loop .inv) (l .before .before .before .before .before .pre .1) .1
+
+returns : tie.Need-returns Inv-loop μ-loop
+returns c = halving-end (c .before .loop .inv) (omega arith)
+
+pub split-spec : {M : Type 1} → statement M
+split-spec =
+    tie.close
+    (tie.spec
+    Inv-loop
+    μ-loop
+    none-requires
+    loop-holds
+    shared-slice-read-place
+    place-requires
+    add-i
+    loop-less
+    loop-again
+    same-length
+    same-length-2
+    returns)

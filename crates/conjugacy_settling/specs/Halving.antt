@@ -1,0 +1,54 @@
+-- What the split of a word in one scan asks and gives.
+use Prim.Native.Nat.{ℕ, _+_, _-_, _<_, _≤_}
+use mathlib.Core.Path.{_≡_}
+use mathlib.Core.Logic.{_⊎_}
+use mathlib.Core.List.{List, [], _++_}
+use lib.ListN.{length, getD, drop, set}
+use Rattle.theory_words.specs.All.{All}
+use Rattle.input_catalogue.specs.Conflict.{Conflicts}
+use Rattle.input_plan.specs.Byte.{commandOf}
+use Rattle.input_plan.specs.Lettered.{Lettered}
+use Rattle.input_plan.specs.Letters.{alphabet}
+use Rattle.theory_conjugacy.specs.Settle.{split}
+use Rattle.array_sets.specs.Sets.{Clear, Table, Meeting, Added}
+use Rattle.conjugacy_settling.specs.declared.Halves.{Halves}
+
+-- a letter, the set of raised commands, and room for one more letter in both halves
+pub record Place (letter : ℕ) (conflicts : List (List ℕ)) (raised low high : List ℕ) (ends : Halves) : Type 0 where
+  pub lettered : Lettered letter
+  pub table : Table conflicts
+  pub meeting : Meeting conflicts raised
+  pub lower : ends .low < length low
+  pub upper : ends .high < length high
+
+-- the letter's line of conflicts
+abbrev pub lineOf : ℕ → List (List ℕ) → List ℕ
+lineOf letter conflicts = getD conflicts (commandOf letter - 1) []
+
+-- the letter is put in the lower half, or in the upper one and its command in the set
+pub data Placed (letter apex : ℕ) (conflicts : List (List ℕ)) (raised low high : List ℕ) (ends : Halves)
+    : List ℕ → List ℕ → List ℕ → Halves → Type 0 where
+  below : (commandOf letter ≡ apex → ⊥) → Clear (lineOf letter conflicts) raised
+      → Placed letter apex conflicts raised low high ends raised (set low (ends .low) letter) high
+      (record { low = ends .low + 1; high = ends .high })
+  above : {raised′ : List ℕ} → (commandOf letter ≡ apex) ⊎ (Clear (lineOf letter conflicts) raised → ⊥)
+      → Added (commandOf letter - 1) conflicts raised raised′
+      → Placed letter apex conflicts raised low high ends raised′ low (set high (ends .high) letter)
+      (record { low = ends .low; high = ends .high + 1 })
+
+-- a word of letters, the conflicts of catalogue c, and room for the word in both halves
+pub record Splittable (c word : List ℕ) (conflicts : List (List ℕ)) (low high : List ℕ) : Type 0 where
+  pub letters : All Lettered word
+  pub table : Conflicts c conflicts
+  pub lower : length word ≤ length low
+  pub upper : length word ≤ length high
+
+-- new is old with its first n bytes replaced by p
+pub record Over (p : List ℕ) (n : ℕ) (old new : List ℕ) : Type 0 where
+  pub many : length p ≡ n
+  pub holds : new ≡ p ++ drop n old
+
+-- the halves of the word are in low and high, and past them these are as they were
+pub record Halved (c : List ℕ) (apex : ℕ) (word low high low′ high′ : List ℕ) (r : Halves) : Type 0 where
+  pub lower : Over (split (alphabet c) apex [] word .0) (r .low) low low′
+  pub upper : Over (split (alphabet c) apex [] word .1) (r .high) high high′

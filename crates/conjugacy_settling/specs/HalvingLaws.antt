@@ -1,0 +1,200 @@
+-- Laws of the scan that splits a word: where a letter goes, bytes written over an array, and the loop's invariant.
+use Prim.Native.Nat.{ℕ, zero, suc, _+_, _-_, _<_, _≤_}
+use native.Mathlib.Omega.{arith}
+use native.Mathlib.Numerals.{add-one}
+use mathlib.Core.Path.{_≡_, refl, sym, _∙_, ap}
+use mathlib.Core.Bool.{Bool, true, false, _||_, or-true}
+use mathlib.Core.Logic.{_⊎_, inl, inr}
+use mathlib.Core.List.{List, [], _∷_, _++_, append-nil}
+use lib.ListN.{length, getD, take, drop, set, length-append, length-drop, drop-of-length-le}
+use lib.Seq.{drop-cons, set-at, append-snoc, take-at}
+use lib.Dec.{eqb}
+use borrow.Author.Tests.{eq-eqb, ne-eqb}
+use Rattle.theory_words.specs.All.{All}
+use Rattle.theory_words.specs.Normal.{meets}
+use Rattle.input_catalogue.specs.Conflict.{Conflicts}
+use Rattle.input_plan.specs.Byte.{commandOf}
+use Rattle.input_plan.specs.Lettered.{Lettered}
+use Rattle.input_plan.specs.Letters.{alphabet}
+use Rattle.theory_conjugacy.specs.Settle.{hit, Split, stop, up}
+use Rattle.theory_conjugacy.specs.Settle as Settle
+use Rattle.theory_conjugacy.specs.SettleLaws.{split-unique}
+use Rattle.conjugacy_settling.specs.declared.Halves.{Halves}
+use Rattle.array_sets.specs.Sets.{Clear, Meeting, empty}
+use Rattle.array_sets.specs.SetsLaws.{empty-meeting}
+use Rattle.conjugacy_settling.specs.MarksLaws.{Marks, marks-none, marks-add, conflicts-table, clear-meets, meets-clear}
+use Rattle.conjugacy_settling.specs.Halving.{Place, lineOf, Placed, below, above, Splittable, Over, Halved}
+
+-- bytes written over the front of an array
+
+pub over-start : (old : List ℕ) → Over [] 0 old old
+over-start old = record { many = refl; holds = refl }
+
+pub over-more : {p old new : List ℕ} {n : ℕ} (b : ℕ) → n < length old → Over p n old new
+    → Over (p ++ b ∷ []) (n + 1) old (set new n b)
+over-more {p} {old} {new} {n} b l o = record {
+  many = length-append p (b ∷ []) ∙ ap (λ (m : ℕ). m + 1) (o .many);
+  holds =
+      ap (λ (x : List ℕ). set x n b) (o .holds ∙ ap (λ (x : List ℕ). p ++ x) (drop-cons old n 0 l))
+      ∙ set-at p (getD old n 0) (drop (suc n) old) b n (o .many)
+      ∙ sym (append-snoc p b (drop (suc n) old))
+      ∙ ap (λ (m : ℕ). (p ++ b ∷ []) ++ drop m old) (sym (add-one n));
+}
+
+pub over-length : {p old new : List ℕ} {n : ℕ} → n ≤ length old → Over p n old new → length new ≡ length old
+over-length {p} {old} {new} {n} l o =
+    ap length (o .holds) ∙ length-append p (drop n old) ∙ omega (arith, length-drop n old, o .many)
+
+pub over-take : {p old new : List ℕ} {n : ℕ} → Over p n old new → take n new ≡ p
+over-take {p} {old} {new} {n} o = ap (take n) (o .holds) ∙ take-at p (drop n old) n (o .many)
+
+-- where a letter goes
+
+module _ {c : List ℕ} {conflicts : List (List ℕ)} (table : Conflicts c conflicts) {s R : List ℕ} (m : Marks s R)
+    (b : ℕ) (range : Lettered b) (apex : ℕ) where
+  hit-below : (commandOf b ≡ apex → ⊥) → Clear (lineOf b conflicts) s
+      → hit (alphabet c) apex R b ≡ false
+  unfolding hit
+  hit-below n f = rw (ne-eqb (commandOf b) apex n, clear-meets table (commandOf b) (range .0) (range .1) m f) refl
+
+  hit-above : (commandOf b ≡ apex) ⊎ (Clear (lineOf b conflicts) s → ⊥)
+      → hit (alphabet c) apex R b ≡ true
+  unfolding hit
+  hit-above (inl e) = rw (eq-eqb (commandOf b) apex e) refl
+  hit-above (inr n) = go (meets (alphabet c) (commandOf b) R) refl
+    where
+      go : (t : Bool) → meets (alphabet c) (commandOf b) R ≡ t → (eqb (commandOf b) apex || t) ≡ true
+      go true e = or-true (eqb (commandOf b) apex)
+      go false e = absurd (n (meets-clear table (commandOf b) (range .0) (range .1) m e))
+
+-- the loop
+
+-- the letters below i are split into p and q, and what the rest splits into comes behind them
+pub record Halfway (c : List ℕ) (apex : ℕ) (word low₀ high₀ raised low high : List ℕ) (ends : Halves) (i : ℕ)
+    : Type 0 where
+  pub R : List ℕ
+  pub p : List ℕ
+  pub q : List ℕ
+  pub marks : Marks raised R
+  pub lower : Over p (ends .low) low₀ low
+  pub upper : Over q (ends .high) high₀ high
+  pub onward : (x y : List ℕ) → Split (alphabet c) apex R (drop i word) x y
+      → Split (alphabet c) apex [] word (p ++ x) (q ++ y)
+
+pub record Halving (word : List ℕ) (apex : ℕ) (conflicts : List (List ℕ)) (low₀ high₀ low high raised : List ℕ)
+    (ends : Halves) (i : ℕ) : Type 0 where
+  pub within : i ≤ length word
+  pub meeting : Meeting conflicts raised
+  pub count : ends .low + ends .high ≡ i
+  pub half : (c : List ℕ) → Splittable c word conflicts low₀ high₀
+      → Halfway c apex word low₀ high₀ raised low high ends i
+
+lettered-at : (w : List ℕ) → All Lettered w → (i : ℕ) → i < length w → Lettered (getD w i 0)
+lettered-at [] h i l = absurd (omega arith)
+lettered-at (b ∷ w) h zero l = h .0
+lettered-at (b ∷ w) h (suc i) l = lettered-at w (h .1) i (omega arith)
+
+pub splittable-at : {c word : List ℕ} {conflicts : List (List ℕ)} {low high : List ℕ}
+    → Splittable c word conflicts low high → (i : ℕ) → i < length word → Lettered (getD word i 0)
+splittable-at {word = word} g i l = lettered-at word (g .letters) i l
+
+module _ {word : List ℕ} {apex : ℕ} {conflicts : List (List ℕ)} {low₀ high₀ : List ℕ} where
+  pub halving-start : {raised : List ℕ} → raised ≡ empty
+      → Halving word apex conflicts low₀ high₀ low₀ high₀ raised (record { low = 0; high = 0 }) 0
+  halving-start e = record {
+    within = omega arith;
+    meeting = rw e empty-meeting;
+    count = refl;
+    half = λ c g. record {
+      R = [];
+      p = [];
+      q = [];
+      marks = rw e marks-none;
+      lower = over-start low₀;
+      upper = over-start high₀;
+      onward = λ x y s. s;
+    };
+  }
+
+  module _ {low high raised : List ℕ} {ends : Halves} {i : ℕ}
+      (h : Halving word apex conflicts low₀ high₀ low high raised ends i) where
+    pub halving-lengths : {c : List ℕ} → Splittable c word conflicts low₀ high₀
+        → (length low ≡ length low₀) × (length high ≡ length high₀)
+    halving-lengths {c} g =
+        let t = h .half c g in (
+          over-length (omega (arith, h .count, h .within, g .lower)) (t .lower),
+          over-length (omega (arith, h .count, h .within, g .upper)) (t .upper),
+        )
+
+    pub halving-place : {c : List ℕ} → Splittable c word conflicts low₀ high₀ → i < length word
+        → Place (getD word i 0) conflicts raised low high ends
+    halving-place {c} g l =
+        let (e, f) = halving-lengths g in
+        let r = splittable-at g i l in
+        record {
+          lettered = r;
+          table = conflicts-table (g .table);
+          meeting = h .meeting;
+          lower = omega (arith, h .count, g .lower);
+          upper = omega (arith, h .count, g .upper);
+        }
+
+    -- the rest begins with the letter at i
+    rest-at : i < length word → drop i word ≡ getD word i 0 ∷ drop (i + 1) word
+    rest-at l = rw add-one (drop-cons word i 0 l)
+
+    pub halving-again : {raised′ low′ high′ : List ℕ} {ends′ : Halves} → i < length word
+        → Placed (getD word i 0) apex conflicts raised low high ends raised′ low′ high′ ends′
+        → Halving word apex conflicts low₀ high₀ low′ high′ raised′ ends′ (i + 1)
+    halving-again l (below n f) = record {
+      within = omega arith;
+      meeting = h .meeting;
+      count = omega (arith, h .count);
+      half = λ c g.
+          let t = h .half c g in
+          let b = getD word i 0 in
+          let k = hit-below (g .table) (t .marks) b (splittable-at g i l) apex n f in
+          record {
+            R = t .R;
+            p = t .p ++ b ∷ [];
+            q = t .q;
+            marks = t .marks;
+            lower = over-more b (omega (arith, h .count, g .lower)) (t .lower);
+            upper = t .upper;
+            onward = λ x y s.
+                rw (append-snoc (t .p) b x)
+                (t .onward (b ∷ x) y (rw (rest-at l) (Settle.low k s)));
+          };
+    }
+    halving-again l (above d a) = record {
+      within = omega arith;
+      meeting = a .meeting;
+      count = omega (arith, h .count);
+      half = λ c g.
+          let t = h .half c g in
+          let b = getD word i 0 in
+          let r = splittable-at g i l in
+          let k = hit-above (g .table) (t .marks) b r apex d in
+          record {
+            R = commandOf b ∷ t .R;
+            p = t .p;
+            q = t .q ++ b ∷ [];
+            marks = marks-add (commandOf b) (r .0) (r .1) a (t .marks);
+            lower = t .lower;
+            upper = over-more b (omega (arith, h .count, g .upper)) (t .upper);
+            onward = λ x y s.
+                rw (append-snoc (t .q) b y)
+                (t .onward x (b ∷ y) (rw (rest-at l) (up k s)));
+          };
+    }
+
+    pub halving-end : length word ≤ i → (c : List ℕ) → Splittable c word conflicts low₀ high₀
+        → Halved c apex word low₀ high₀ low high ends
+    halving-end l c g =
+        let t = h .half c g in
+        let e : drop i word ≡ [] = drop-of-length-le word l in
+        let s : Split (alphabet c) apex (t .R) (drop i word) [] [] = rw e stop in
+        let k : Split (alphabet c) apex [] word (t .p) (t .q) =
+        rw (append-nil (t .p), append-nil (t .q)) at (t .onward [] [] s) in
+        let (x, y) = split-unique (alphabet c) apex k in
+        record { lower = rw x (t .lower); upper = rw y (t .upper) }

@@ -1,0 +1,106 @@
+-- `named` decides line 4. The loop's invariant: every record before j names a command.
+use Prim.Native.Nat.{_+_, _-_}
+use native.Mathlib.Omega.{arith}
+use mathlib.Core.Path.{ap}
+use mathlib.Core.Logic.{⊎-elim}
+use Rattle.refusal.specs.Search.{lineAt}
+use Rattle.refusal.specs.SearchLaws.{Searching, search-start, search-again, search-hit, search-end}
+use Rattle.input_catalogue.specs.Catalogue.{records, commandPlace}
+use Rattle.input_catalogue.specs.SoundLaws.{decides, passes, wrongCommand, command-zero, command-high, command-fine}
+use Rattle.input_catalogue.proofs.named.Statement.{statement}
+use Rattle.input_catalogue.proofs.named.Tie as tie
+
+abbrev Inv-loop : tie.InvT-loop
+Inv-loop c n r j₀ j = Searching (wrongCommand c) (records c) 1 j
+
+abbrev μ-loop : tie.MeasureT-loop
+μ-loop c n r j₀ j = records c + 1 - j
+
+shared-slice-read-n : tie.Need-shared-slice-read-n Inv-loop μ-loop
+shared-slice-read-n c = omega arith
+
+cast-n : tie.Need-cast-n Inv-loop μ-loop
+cast-n c = omega arith
+
+shared-slice-read-r : tie.Need-shared-slice-read-r Inv-loop μ-loop
+shared-slice-read-r c = omega arith
+
+cast-r : tie.Need-cast-r Inv-loop μ-loop
+cast-r c = omega arith
+
+loop-holds : tie.Need-loop-holds Inv-loop μ-loop
+loop-holds c =
+    let cat = c .before .before .before .args .c .now in
+    search-start (wrongCommand cat) (records cat) 1
+
+mul-k : tie.Need-mul-k Inv-loop μ-loop
+mul-k c = omega arith
+
+add-k : tie.Need-add-k Inv-loop μ-loop
+add-k c = omega arith
+
+shared-slice-read-k : tie.Need-shared-slice-read-k Inv-loop μ-loop
+shared-slice-read-k c = omega arith
+
+shared-slice-read-if2 : tie.Need-shared-slice-read-if2 Inv-loop μ-loop
+shared-slice-read-if2 c = omega arith
+
+mul-refused : tie.Need-mul-refused Inv-loop μ-loop
+mul-refused c = omega arith
+
+add-refused : tie.Need-add-refused Inv-loop μ-loop
+add-refused c = omega arith
+
+refused-requires : tie.Need-refused-requires Inv-loop μ-loop
+refused-requires c κs = omega arith
+
+returns : tie.Need-returns Inv-loop μ-loop
+returns c =
+    let cat = c .before .before .before .before .before .before .before .before .args .c .now in
+    let g = c .before .before .before .before .loop in
+    let came = c .before .if1 .came in
+    let wrong = ⊎-elim (λ w. command-zero cat (g .j) (w .taken)) (λ w. command-high cat (g .j) (w .2 .taken)) came in
+    let hit = search-hit (wrongCommand cat) (g .inv) (omega arith) wrong in
+    decides cat (c .refused .result) (ap (lineAt 4 0 (commandPlace cat)) hit) (c .refused .ensures)
+
+add-j : tie.Need-add-j Inv-loop μ-loop
+add-j c = omega arith
+
+loop-less : tie.Need-loop-less Inv-loop μ-loop
+loop-less c = omega arith
+
+loop-again : tie.Need-loop-again Inv-loop μ-loop
+loop-again c =
+    let cat = c .before .before .before .before .before .before .before .before .before .args .c .now in
+    let j = c .before .before .before .before .before .loop .j in
+    search-again (wrongCommand cat) (c .before .before .before .before .before .loop .inv) (omega arith)
+    (command-fine cat j (c .before .before .if1 .left) (c .if2 .left))
+
+returns-2 : tie.Need-returns-2 Inv-loop μ-loop
+returns-2 c =
+    let cat = c .before .before .before .before .before .args .c .now in
+    passes cat (ap (lineAt 4 0 (commandPlace cat)) (search-end (wrongCommand cat) (c .before .loop .inv) (omega arith)))
+
+pub named-spec : {M : Type 1} → statement M
+named-spec =
+    tie.close
+    (tie.spec
+    Inv-loop
+    μ-loop
+    shared-slice-read-n
+    cast-n
+    shared-slice-read-r
+    cast-r
+    loop-holds
+    mul-k
+    add-k
+    shared-slice-read-k
+    shared-slice-read-if2
+    mul-refused
+    add-refused
+    refused-requires
+    returns
+    add-j
+    loop-less
+    loop-again
+    returns-2)

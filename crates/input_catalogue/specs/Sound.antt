@@ -1,0 +1,43 @@
+-- What the checks of a catalogue promise one another: what holds once lines 1 and 2 have passed, and once line 4 has.
+use Prim.Native.Nat.{ℕ, _+_, _*_, _≤_}
+use mathlib.Core.Path.{_≡_}
+use mathlib.Core.List.{List}
+use mathlib.Core.Option.{Option}
+use lib.ListN.{length}
+use Rattle.refusal.specs.Line.{Line, toldChecked, orElse}
+use Rattle.refusal.specs.declared.Checked.{Checked}
+use Rattle.input_catalogue.specs.Catalogue.{
+  commands,
+  records,
+  head,
+  command,
+  next,
+  orIf,
+  sizeLine,
+  countLine,
+  headLine,
+  nextLine,
+  recordLine,
+}
+
+-- lines 1 and 2 together
+abbrev pub frameLine : List ℕ → Option Line
+frameLine c = orIf (sizeLine c) (countLine c)
+
+-- lines 1 to 4
+abbrev pub soundLine : List ℕ → Option Line
+soundLine c = orIf (frameLine c) (orIf (headLine c) (orIf (nextLine c) (recordLine c)))
+
+-- a check of one line is refused by that line exactly, or passes with N
+abbrev pub Decides : List ℕ → Option Line → Checked → Type 0
+Decides c l r = toldChecked r ≡ orElse l (commands c)
+
+pub record Framed (c : List ℕ) : Type 0 where
+  pub size : length c ≡ 2 + commands c + 2 * records c
+  pub few : commands c ≤ 24
+
+pub record Sound (c : List ℕ) : Type 0 where
+  pub framed : Framed c
+  pub heads : (a : ℕ) → 1 ≤ a → a ≤ commands c → head c a ≤ records c
+  pub nexts : (j : ℕ) → 1 ≤ j → j ≤ records c → next c j ≤ records c
+  pub named : (j : ℕ) → 1 ≤ j → j ≤ records c → (1 ≤ command c j) × (command c j ≤ commands c)

@@ -1,0 +1,60 @@
+-- `diagonal` marks the rows' diagonal. The loop's invariant: it is marked below i.
+use Prim.Native.Nat.{_-_, _≤_}
+use native.Mathlib.Omega.{arith}
+use mathlib.Core.Path.{_≡_, refl, _∙_, ap}
+use Rattle.input_conflicts.specs.Marks.{diagonal}
+use Rattle.input_conflicts.specs.MarksLaws.{diagonal-more}
+use Rattle.input_conflicts.proofs.diagonal.Statement.{statement}
+use Rattle.input_conflicts.proofs.diagonal.Tie as tie
+
+abbrev Inv-loop : tie.InvT-loop
+Inv-loop rows₀ i₀ rows i = (i ≤ 24) × (rows ≡ diagonal rows₀ i)
+
+abbrev μ-loop : tie.MeasureT-loop
+μ-loop rows₀ i₀ rows i = 24 - i
+
+loop-holds : tie.Need-loop-holds Inv-loop μ-loop
+unfolding diagonal
+loop-holds c = (omega arith, refl)
+
+mul-rows : tie.Need-mul-rows Inv-loop μ-loop
+mul-rows c = omega arith
+
+mul-rows-2 : tie.Need-mul-rows-2 Inv-loop μ-loop
+mul-rows-2 c = omega arith
+
+index-1-rows : tie.Need-index-1-rows Inv-loop μ-loop
+index-1-rows c = omega arith
+
+index-2-rows : tie.Need-index-2-rows Inv-loop μ-loop
+index-2-rows c = omega arith
+
+add-i : tie.Need-add-i Inv-loop μ-loop
+add-i c = omega arith
+
+loop-less : tie.Need-loop-less Inv-loop μ-loop
+loop-less c = omega arith
+
+loop-again : tie.Need-loop-again Inv-loop μ-loop
+loop-again c =
+    let x = c .before .before in
+    (omega arith, diagonal-more (x .args .rows .now) (x .pre) (c .before .loop .i) (c .before .loop .inv .1))
+
+returns : tie.Need-returns Inv-loop μ-loop
+returns c = c .before .loop .inv .1 ∙ ap (diagonal (c .before .before .args .rows .now)) (omega arith)
+
+pub diagonal-spec : {M : Type 1} → statement M
+diagonal-spec =
+    tie.close
+    (tie.spec
+    Inv-loop
+    μ-loop
+    loop-holds
+    mul-rows
+    mul-rows-2
+    index-1-rows
+    index-2-rows
+    add-i
+    loop-less
+    loop-again
+    returns)

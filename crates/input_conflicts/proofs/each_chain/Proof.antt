@@ -1,0 +1,100 @@
+-- `each_chain` decides line 5. The loop's invariant: every chain before command a ends, the rows hold its marks, and
+-- the first command with each head is known.
+use Prim.Native.Nat.{_+_, _-_}
+use native.Mathlib.Omega.{arith}
+use mathlib.Core.Path.{ap, sym, _∙_}
+use mathlib.Core.Bool.{not}
+use borrow.Author.Tests.{not-false}
+use Rattle.refusal.specs.Search.{lineAt}
+use Rattle.refusal.specs.SearchLaws.{Searching, search-start, search-again, search-hit, search-end}
+use Rattle.input_catalogue.specs.Catalogue.{commands, headPlace}
+use Rattle.input_catalogue.specs.SoundLaws.{decides, passes, some-none}
+use Rattle.input_conflicts.specs.Known.{Chained, Known}
+use Rattle.input_conflicts.specs.ChainLaws.{endless, chained-start, chained-end}
+use Rattle.input_conflicts.specs.KnownLaws.{known-start}
+use Rattle.input_conflicts.proofs.each_chain.Statement.{statement}
+use Rattle.input_conflicts.proofs.each_chain.Tie as tie
+
+abbrev Inv-loop : tie.InvT-loop
+Inv-loop c rows₀ own₀ firsts₀ n a₀ rows own firsts a =
+    Searching (endless c) (commands c) 1 a × Chained c a rows × Known c a own firsts
+
+abbrev μ-loop : tie.MeasureT-loop
+μ-loop c rows₀ own₀ firsts₀ n a₀ rows own firsts a = commands c + 1 - a
+
+shared-slice-read-n : tie.Need-shared-slice-read-n Inv-loop μ-loop
+shared-slice-read-n c = omega arith
+
+cast-n : tie.Need-cast-n Inv-loop μ-loop
+cast-n c = omega arith
+
+loop-holds : tie.Need-loop-holds Inv-loop μ-loop
+loop-holds c =
+    let x = c .before .before in
+    let cat = x .args .c .now in (
+      search-start (endless cat) (commands cat) 1,
+      chained-start cat (x .pre .1 .0),
+      known-start cat (x .pre .1 .1 .0) (x .pre .1 .1 .1),
+    )
+
+chain-of-requires : tie.Need-chain-of-requires Inv-loop μ-loop
+chain-of-requires c κs =
+    let x = c .before .before .before .before .before .before .before in
+    let g = c .before .before .before .before .loop in
+    (x .pre .0, (g .inv .1, (g .inv .2, (omega arith, omega arith))))
+
+add-refused : tie.Need-add-refused Inv-loop μ-loop
+add-refused c = omega arith
+
+refused-requires : tie.Need-refused-requires Inv-loop μ-loop
+refused-requires c κs = omega arith
+
+returns : tie.Need-returns Inv-loop μ-loop
+returns c =
+    let cat = c .before .before .before .before .before .before .before .before .before .before .args .c .now in
+    let stuck = ap not (sym (c .before .before .chain-of .ensures .0)) ∙ c .before .if1 .taken in
+    let g = c .before .before .before .before .before .before .before .loop in
+    let hit = search-hit (endless cat) (g .inv .0) (omega arith) stuck in
+    let line = ap (lineAt 5 0 headPlace) hit in
+    (decides cat (c .refused .result) line (c .refused .ensures), λ e. absurd (some-none (sym line ∙ e)))
+
+add-a : tie.Need-add-a Inv-loop μ-loop
+add-a c = omega arith
+
+loop-less : tie.Need-loop-less Inv-loop μ-loop
+loop-less c = omega arith
+
+loop-again : tie.Need-loop-again Inv-loop μ-loop
+loop-again c =
+    let x = c .before .before .before .before .before .before .before .before .before in
+    let cat = x .args .c .now in
+    let g = c .before .before .before .before .before .before .loop in
+    let d = c .before .chain-of .ensures in
+    let t = not-false (c .before .chain-of .result) (c .if1 .left) in
+    (search-again (endless cat) (g .inv .0) (omega arith) (ap not (sym (d .0)) ∙ c .if1 .left), d .1 .0 t, d .1 .1 t)
+
+returns-2 : tie.Need-returns-2 Inv-loop μ-loop
+returns-2 c =
+    let cat = c .before .before .before .before .args .c .now in
+    let g = c .before .loop .inv in (
+      passes cat (ap (lineAt 5 0 headPlace) (search-end (endless cat) (g .0) (omega arith))),
+      λ e. chained-end cat (c .loop-test .left) (g .1),
+    )
+
+pub each-chain-spec : {M : Type 1} → statement M
+each-chain-spec =
+    tie.close
+    (tie.spec
+    Inv-loop
+    μ-loop
+    shared-slice-read-n
+    cast-n
+    loop-holds
+    chain-of-requires
+    add-refused
+    refused-requires
+    returns
+    add-a
+    loop-less
+    loop-again
+    returns-2)

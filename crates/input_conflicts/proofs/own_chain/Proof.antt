@@ -1,0 +1,104 @@
+-- `own` decides line 6. The loop's invariant: no command before a stands in its own chain.
+use Prim.Native.Nat.{_+_, _-_}
+use native.Mathlib.Omega.{arith}
+use mathlib.Core.Path.{ap}
+use Rattle.refusal.specs.Search.{lineAt}
+use Rattle.refusal.specs.SearchLaws.{Searching, search-start, search-again, search-hit, search-end}
+use Rattle.input_catalogue.specs.Catalogue.{commands, headPlace, chain, stands}
+use Rattle.input_catalogue.specs.SoundLaws.{decides, passes}
+use Rattle.input_conflicts.specs.ChainLaws.{met-own, met-not}
+use Rattle.input_conflicts.proofs.own_chain.Statement.{statement}
+use Rattle.input_conflicts.proofs.own_chain.Tie as tie
+
+abbrev Inv-loop : tie.InvT-loop
+Inv-loop c rows n a₀ a = Searching (λ a. stands a (chain c a)) (commands c) 1 a
+
+abbrev μ-loop : tie.MeasureT-loop
+μ-loop c rows n a₀ a = commands c + 1 - a
+
+shared-slice-read-n : tie.Need-shared-slice-read-n Inv-loop μ-loop
+shared-slice-read-n c = omega arith
+
+cast-n : tie.Need-cast-n Inv-loop μ-loop
+cast-n c = omega arith
+
+loop-holds : tie.Need-loop-holds Inv-loop μ-loop
+loop-holds c =
+    let cat = c .before .before .args .c .now in
+    search-start (λ a. stands a (chain cat a)) (commands cat) 1
+
+sub-if1 : tie.Need-sub-if1 Inv-loop μ-loop
+sub-if1 c = omega arith
+
+sub-if1-2 : tie.Need-sub-if1-2 Inv-loop μ-loop
+sub-if1-2 c = omega arith
+
+mul-if1 : tie.Need-mul-if1 Inv-loop μ-loop
+mul-if1 c = omega arith
+
+mul-if1-2 : tie.Need-mul-if1-2 Inv-loop μ-loop
+mul-if1-2 c = omega arith
+
+index-1-if1 : tie.Need-index-1-if1 Inv-loop μ-loop
+index-1-if1 c = omega arith
+
+index-2-if1 : tie.Need-index-2-if1 Inv-loop μ-loop
+index-2-if1 c = omega arith
+
+add-refused : tie.Need-add-refused Inv-loop μ-loop
+add-refused c = omega arith
+
+refused-requires : tie.Need-refused-requires Inv-loop μ-loop
+refused-requires c κs = omega arith
+
+returns : tie.Need-returns Inv-loop μ-loop
+returns c =
+    let x = c .before .before .before .before .before .before .before in
+    let cat = x .args .c .now in
+    let g = c .before .before .before .before .loop in
+    let t = met-own cat (x .pre .1) (g .a) (omega arith) (omega arith) (c .before .if1 .taken) in
+    let hit = search-hit (λ a. stands a (chain cat a)) (g .inv) (omega arith) t in
+    decides cat (c .refused .result) (ap (lineAt 6 0 headPlace) hit) (c .refused .ensures)
+
+add-a : tie.Need-add-a Inv-loop μ-loop
+add-a c = omega arith
+
+loop-less : tie.Need-loop-less Inv-loop μ-loop
+loop-less c = omega arith
+
+loop-again : tie.Need-loop-again Inv-loop μ-loop
+loop-again c =
+    let x = c .before .before .before .before .before .before in
+    let cat = x .args .c .now in
+    let g = c .before .before .before .loop in
+    search-again (λ a. stands a (chain cat a)) (g .inv) (omega arith)
+    (met-not cat (x .pre .1) (g .a) (omega arith) (omega arith) (c .if1 .left))
+
+returns-2 : tie.Need-returns-2 Inv-loop μ-loop
+returns-2 c =
+    let cat = c .before .before .before .before .args .c .now in
+    let none = search-end (λ a. stands a (chain cat a)) (c .before .loop .inv) (omega arith) in
+    passes cat (ap (lineAt 6 0 headPlace) none)
+
+pub own-chain-spec : {M : Type 1} → statement M
+own-chain-spec =
+    tie.close
+    (tie.spec
+    Inv-loop
+    μ-loop
+    shared-slice-read-n
+    cast-n
+    loop-holds
+    sub-if1
+    sub-if1-2
+    mul-if1
+    mul-if1-2
+    index-1-if1
+    index-2-if1
+    add-refused
+    refused-requires
+    returns
+    add-a
+    loop-less
+    loop-again
+    returns-2)

@@ -1,0 +1,141 @@
+-- `read` goes through the checks in the table's order; where all pass, the marks with the diagonal are the conflicts.
+use mathlib.Core.Path.{_≡_}
+use mathlib.Core.Option.{none}
+use Rattle.input_catalogue.specs.Catalogue.{orIf, endlessLine, ownLine}
+use Rattle.input_catalogue.specs.Sound.{soundLine}
+use Rattle.input_catalogue.specs.SoundLaws.{passed-none, then-passed, then-refused}
+use Rattle.input_conflicts.specs.ReadLaws.{sound-none, answers-passed, answers-refused}
+use Rattle.input_conflicts.specs.ChainLaws.{met-conflicts}
+use borrow.Author.Needs.{needs}
+use Rattle.input_conflicts.proofs.read.Statement.{statement}
+use Rattle.input_conflicts.proofs.read.Tie as tie
+
+sound-line : (c : tie.After-enum-told) → soundLine (c .before .before .before .before .args .catalogue .now) ≡ none
+sound-line c =
+    let cat = c .before .before .before .before .args .catalogue .now in
+    let r = c .before .before .checked in
+    passed-none cat (soundLine cat) (r .result) (r .ensures) (c .enum-told .given .1)
+
+abbrev before-chains : tie.After-enum-told3 → tie.After-enum-told
+before-chains c = c .before .before .before .before .before .before .before .before
+
+endless-line : (c : tie.After-enum-told3)
+    → endlessLine (before-chains c .before .before .before .before .args .catalogue .now) ≡ none
+endless-line c =
+    let cat = before-chains c .before .before .before .before .args .catalogue .now in
+    let r = c .before .before .each-chain in
+    passed-none cat (endlessLine cat) (r .result) (r .ensures .0) (c .enum-told3 .given .1)
+
+checked-requires : tie.Need-checked-requires
+checked-requires c κs = search needs
+
+enum-told : tie.Need-enum-told
+enum-told c = search needs
+
+enum-told-2 : tie.Need-enum-told-2
+enum-told-2 c = search needs
+
+returns : tie.Need-returns
+returns c =
+    let cat = c .before .before .before .before .args .catalogue .now in
+    let r = c .before .before .checked in
+    let last = orIf (endlessLine cat) (ownLine cat) in
+    let d = then-refused cat (soundLine cat) last (r .result) (r .ensures) (c .enum-told2 .given .1) in
+    answers-refused cat (r .result) d (c .enum-told2 .given .1)
+
+blank-requires : tie.Need-blank-requires
+blank-requires c κs = search needs
+
+none-known-requires : tie.Need-none-known-requires
+none-known-requires c κs = search needs
+
+each-chain-requires : tie.Need-each-chain-requires
+each-chain-requires c κs =
+    let b = c .before .before .before .before in
+    let x = b .before in (
+      sound-none (x .before .before .before .before .args .catalogue .now) (sound-line x),
+      (
+        x .before .before .before .before .pre,
+        (b .blank .ensures, c .before .before .before .none-known .ensures),
+      ),
+    )
+
+enum-told-3 : tie.Need-enum-told-3
+enum-told-3 c = search needs
+
+enum-told-4 : tie.Need-enum-told-4
+enum-told-4 c = search needs
+
+returns-2 : tie.Need-returns-2
+returns-2 c =
+    let x = c .before .before .before .before .before .before .before .before in
+    let cat = x .before .before .before .before .args .catalogue .now in
+    let r = c .before .before .each-chain in
+    let d = then-refused cat (endlessLine cat) (ownLine cat) (r .result) (r .ensures .0) (c .enum-told4 .given .1) in
+    let last = orIf (endlessLine cat) (ownLine cat) in
+    answers-refused cat (r .result) (then-passed cat (soundLine cat) last (r .result) (sound-line x) d)
+    (c .enum-told4 .given .1)
+
+own-chain-requires : tie.Need-own-chain-requires
+own-chain-requires c κs =
+    let y = c .before in
+    let x = before-chains y in (
+      sound-none (x .before .before .before .before .args .catalogue .now) (sound-line x) .framed,
+      y .before .before .each-chain .ensures .1 (endless-line y),
+    )
+
+enum-known-owned : tie.Need-enum-known-owned
+enum-known-owned c = search needs
+
+enum-told-5 : tie.Need-enum-told-5
+enum-told-5 c = search needs
+
+returns-3 : tie.Need-returns-3
+returns-3 c =
+    let y = c .before .before .before .before in
+    let x = before-chains y in
+    let cat = x .before .before .before .before .args .catalogue .now in
+    let r = c .before .before .own-chain in
+    let d = then-passed cat (endlessLine cat) (ownLine cat) (r .result) (endless-line y) (r .ensures) in
+    let last = orIf (endlessLine cat) (ownLine cat) in
+    answers-refused cat (r .result) (then-passed cat (soundLine cat) last (r .result) (sound-line x) d)
+    (c .enum-told5 .given .1)
+
+diagonal-requires : tie.Need-diagonal-requires
+diagonal-requires c κs =
+    let y = c .before .before .before .before .before .before in
+    y .before .before .each-chain .ensures .1 (endless-line y) .shape
+
+returns-4 : tie.Need-returns-4
+returns-4 c =
+    let y = c .before .before .before .before .before .before .before in
+    let x = before-chains y in
+    let cat = x .before .before .before .before .args .catalogue .now in
+    let r = c .before .before .before .before .before .own-chain in
+    let d = then-passed cat (endlessLine cat) (ownLine cat) (r .result) (endless-line y) (r .ensures) in
+    let last = orIf (endlessLine cat) (ownLine cat) in
+    let met = y .before .before .each-chain .ensures .1 (endless-line y) in
+    answers-passed cat (r .result) (then-passed cat (soundLine cat) last (r .result) (sound-line x) d)
+    (c .before .before .before .owned .given .1)
+    (rw (c .diagonal .ensures) (met-conflicts cat met))
+
+pub read-spec : {M : Type 1} → statement M
+read-spec =
+    tie.close
+    (tie.spec
+    checked-requires
+    enum-told
+    enum-told-2
+    returns
+    blank-requires
+    none-known-requires
+    each-chain-requires
+    enum-told-3
+    enum-told-4
+    returns-2
+    own-chain-requires
+    enum-known-owned
+    enum-told-5
+    returns-3
+    diagonal-requires
+    returns-4)

@@ -1,0 +1,69 @@
+-- Catalogues of a few bytes and the line of document 01's table that refuses each, computed from the definitions.
+use Prim.Native.Nat.{ℕ}
+use mathlib.Core.Path.{_≡_, refl}
+use mathlib.Core.Bool.{true, false}
+use mathlib.Core.List.{List, [], _∷_}
+use mathlib.Core.Option.{Option, none, some}
+use Rattle.refusal.specs.Line.{Line, line, firstLine}
+use Rattle.input_catalogue.specs.Catalogue.{ends, follow, stands, catalogueLines}
+use Rattle.input_catalogue.specs.Conflict.{conflict}
+use Rattle.refusal.specs.Search.{firstOf}
+
+abbrev lineFor : List ℕ → Option Line
+lineFor c = firstLine (catalogueLines c)
+
+too-short : lineFor (0 ∷ []) ≡ some (line 1 0 0)
+unfolding firstOf
+too-short = refl
+
+-- line 5 is decided before line 6: command 1 stands in its own chain, and the chain of command 2 doesn't end
+endless-first : lineFor (2 ∷ 2 ∷ 1 ∷ 2 ∷ 1 ∷ 0 ∷ 1 ∷ 2 ∷ []) ≡ some (line 5 0 3)
+unfolding firstOf ends follow stands
+endless-first = refl
+
+-- line 3 is decided before line 4: record 1 has command 0 and a next index above R
+index-first : lineFor (2 ∷ 1 ∷ 0 ∷ 0 ∷ 0 ∷ 2 ∷ []) ≡ some (line 3 0 5)
+unfolding firstOf
+index-first = refl
+
+head-above : lineFor (1 ∷ 0 ∷ 1 ∷ []) ≡ some (line 3 0 2)
+unfolding firstOf
+head-above = refl
+
+-- a record whose next is itself is refused only where a chain reaches it
+loop-unreached : lineFor (2 ∷ 1 ∷ 0 ∷ 0 ∷ 1 ∷ 1 ∷ []) ≡ none
+unfolding firstOf ends follow stands
+loop-unreached = refl
+
+loop-reached : lineFor (2 ∷ 1 ∷ 0 ∷ 1 ∷ 1 ∷ 1 ∷ []) ≡ some (line 5 0 3)
+unfolding firstOf ends follow stands
+loop-reached = refl
+
+own-chain : lineFor (1 ∷ 1 ∷ 1 ∷ 1 ∷ 0 ∷ []) ≡ some (line 6 0 2)
+unfolding firstOf ends follow stands
+own-chain = refl
+
+abbrev shared : List ℕ
+shared = 3 ∷ 2 ∷ 1 ∷ 2 ∷ 0 ∷ 2 ∷ 2 ∷ 3 ∷ 0 ∷ []
+
+-- two chains may share a tail
+shared-tail : lineFor shared ≡ none
+unfolding firstOf ends follow stands
+shared-tail = refl
+
+-- N = 25 in a catalogue of the wrong size
+size-first : lineFor (25 ∷ 0 ∷ []) ≡ some (line 1 0 0)
+unfolding firstOf
+size-first = refl
+
+-- document 01's catalogue K: conflicts 1-2, 2-3, 3-4
+abbrev K : List ℕ
+K = 4 ∷ 3 ∷ 1 ∷ 2 ∷ 3 ∷ 0 ∷ 2 ∷ 0 ∷ 3 ∷ 0 ∷ 4 ∷ 0 ∷ []
+
+K-passes : lineFor K ≡ none
+unfolding firstOf ends follow stands
+K-passes = refl
+
+K-conflict : (conflict K 3 2 ≡ true) × (conflict K 1 3 ≡ false)
+unfolding conflict follow stands
+K-conflict = (refl, refl)

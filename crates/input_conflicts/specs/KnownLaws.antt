@@ -1,0 +1,157 @@
+-- A chain that several commands have: the members that one row tells are marked as the chain itself would be, and what
+-- is known of each head stays known.
+use Prim.Native.Nat.{ℕ, _+_, _-_, _≤_, _<_}
+use native.Mathlib.Decide.{ℕ-discrete, decLt}
+use native.Mathlib.Omega.{arith}
+use mathlib.Core.Path.{_≡_, refl, sym, _∙_, ap, subst}
+use mathlib.Core.Bool.{Bool, true, false, _||_, _&&_, or-false}
+use mathlib.Core.List.{List, []}
+use lib.ListN.{length, getD, set, replicate, length-set, getD-replicate}
+use lib.Seq.{getD-set-same, getD-set-other}
+use lib.Dec.{eqb}
+use borrow.Author.Tests.{eq-eqb, ne-eqb}
+use Rattle.input_catalogue.specs.Catalogue.{commands, records, head, headPlace, ends, chain, stands}
+use Rattle.input_catalogue.specs.Conflict.{bit}
+use Rattle.input_catalogue.specs.Sound.{Sound}
+use Rattle.input_catalogue.specs.SoundLaws.{head-at}
+use Rattle.input_marks.specs.Marks.{cell, pairs, notes, members}
+use Rattle.input_conflicts.specs.Marks.{Blank}
+use Rattle.input_marks.specs.MarksLaws.{Fit, notes-shape, notes-cell}
+use Rattle.input_marks.specs.MembersLaws.{members-fit, members-stand}
+use Rattle.input_marks.specs.WalkLaws.{follow-fit}
+use Rattle.input_conflicts.specs.Known.{NoneKnown, Chained, Walked, Known}
+use Rattle.input_conflicts.specs.ChainLaws.{chained-again}
+
+-- what is known of the heads
+
+pub none-known : NoneKnown (replicate 256 0)
+none-known = record { many = refl; clear = λ h l. getD-replicate 256 h 0 0 l }
+
+pub known-start : (c : List ℕ) {own : List (List ℕ)} {firsts : List ℕ} → Blank own → NoneKnown firsts
+    → Known c 1 own firsts
+known-start c b n = record {
+  shape = b .shape;
+  many = n .many;
+  blank = λ i j l hi hj. b .clear i j hi hj;
+  walked = λ h l p. absurd (omega (arith, n .clear h l));
+}
+
+pub known-below : {c : List ℕ} {a : ℕ} {own : List (List ℕ)} {firsts : List ℕ} → Known c a own firsts
+    → (h : ℕ) → h < 256 → getD firsts h 0 ≤ a
+known-below {a = a} {firsts = firsts} k h l = go (decLt 0 (getD firsts h 0))
+  where
+    go : Dec (0 < getD firsts h 0) → getD firsts h 0 ≤ a
+    go (yes p) = omega (arith, k .walked h l p .below)
+    go (no p) = omega arith
+
+module _ (c : List ℕ) (s : Sound c) (a : ℕ) (la : 1 ≤ a) (ha : a ≤ commands c) where
+  few : a ≤ 24
+  few = omega (arith, s .framed .few)
+
+  chain-fit : Fit (chain c a)
+  chain-fit = follow-fit c s (records c) (head c a) (s .heads a la ha)
+
+  -- the chain was walked
+  pub walked-chained : {rows rows' : List (List ℕ)} → Chained c a rows → rows' ≡ pairs rows a (chain c a)
+      → Chained c (a + 1) rows'
+  walked-chained m e = chained-again c s a la ha (chain c a) chain-fit (λ x l h. refl) m e
+
+  -- the head was met before, at command b
+  module _ {own : List (List ℕ)} {firsts : List ℕ} (k : Known c a own firsts) {h b : ℕ}
+      (eh : h ≡ getD c (headPlace a) 0) (w : Walked c a own h b) where
+    same-head : head c a ≡ head c b
+    same-head = head-at c a ha ∙ sym eh ∙ sym (w .heads)
+
+    pub like-ends : true ≡ ends c (records c) (head c a)
+    like-ends = sym (ap (ends c (records c)) (same-head ∙ w .heads) ∙ w .ending)
+
+    abbrev line : List ℕ
+    line = getD own (b - 1) []
+
+    wide : length line ≡ 24
+    wide = k .shape .wide (b - 1) (omega (arith, w .one, w .below, few))
+
+    pub like-chained : {rows rows' : List (List ℕ)} → Chained c a rows → rows' ≡ pairs rows a (members 0 line)
+        → Chained c (a + 1) rows'
+    like-chained m e = chained-again c s a la ha (members 0 line) (members-fit 0 line (omega (arith, wide))) same m e
+      where
+        same : (x : ℕ) → 1 ≤ x → x ≤ 24 → stands x (members 0 line) ≡ stands x (chain c a)
+        same x l h =
+            let e : 0 + (x - 1) + 1 ≡ x = omega arith in
+            let f : x - 1 + 1 ≡ x = omega arith in
+            let g : stands (x - 1 + 1) (chain c b) ≡ stands x (chain c a) =
+            rw (f, same-head)
+            in
+            subst (λ (y : ℕ). stands y (members 0 line) ≡ stands x (chain c a)) e
+            (members-stand 0 line (x - 1) (stands (x - 1 + 1) (chain c b)) (omega (arith, wide))
+            (w .tells (x - 1) (omega arith)) ∙ g)
+
+  -- no more is known
+  pub like-known : {own : List (List ℕ)} {firsts : List ℕ} → Known c a own firsts → Known c (a + 1) own firsts
+  like-known k = record {
+    shape = k .shape;
+    many = k .many;
+    blank = λ i j l hi hj. k .blank i j (omega arith) hi hj;
+    walked = λ h l p. later (k .walked h l p);
+  }
+    where
+      later : {own : List (List ℕ)} {h b : ℕ} → Walked c a own h b → Walked c (a + 1) own h b
+      later w = record {
+        one = w .one;
+        below = omega (arith, w .below);
+        heads = w .heads;
+        ending = w .ending;
+        tells = w .tells;
+      }
+
+  -- the head of a is known now
+  pub walked-known : {own own' : List (List ℕ)} {firsts : List ℕ} {h : ℕ} → Known c a own firsts
+      → h ≡ getD c (headPlace a) 0 → h < 256 → own' ≡ notes own a (chain c a) → true ≡ ends c (records c) (head c a)
+      → Known c (a + 1) own' (set firsts h a)
+  walked-known {own} {firsts = firsts} {h = h} k eh lh e t = rw e
+      (record {
+        shape = notes-shape a (la, few) (chain c a) own chain-fit (k .shape);
+        many = length-set firsts h a ∙ k .many;
+        blank = λ i j l hi hj.
+            other i j hi hj (λ z. omega arith) false (k .blank i j (omega arith) hi hj);
+        walked = λ x lx p. go x lx p (ℕ-discrete x h);
+      })
+    where
+      cells : (i j : ℕ) → i < 24 → j < 24 → (q : Bool) → cell own i j ≡ bit q
+          → cell (notes own a (chain c a)) i j ≡ bit ((eqb (i + 1) a && stands (j + 1) (chain c a)) || q)
+      cells i j hi hj q f = notes-cell a (la, few) (chain c a) own chain-fit (k .shape) i j q f
+
+      other : (i j : ℕ) → i < 24 → j < 24 → (i + 1 ≡ a → ⊥) → (q : Bool) → cell own i j ≡ bit q
+          → cell (notes own a (chain c a)) i j ≡ bit q
+      other i j hi hj n q f = cells i j hi hj q f ∙ rw (ne-eqb (i + 1) a n)
+
+      go : (x : ℕ) → x < 256 → 0 < getD (set firsts h a) x 0 → Dec (x ≡ h)
+          → Walked c (a + 1) (notes own a (chain c a)) x (getD (set firsts h a) x 0)
+      go x lx p (yes z) =
+          let g : getD (set firsts h a) x 0 ≡ a
+          = ap (λ (y : ℕ). getD (set firsts h a) y 0) z ∙ getD-set-same firsts h a 0 (omega (arith, k .many)) in
+          rw g
+          (record {
+            one = la;
+            below = omega arith;
+            heads = head-at c a ha ∙ sym eh ∙ sym z;
+            ending = ap (ends c (records c)) (z ∙ eh ∙ sym (head-at c a ha)) ∙ sym t;
+            tells = λ j hj.
+                let m : a - 1 + 1 ≡ a = omega arith in
+                cells (a - 1) j (omega (arith, few)) hj false (k .blank (a - 1) j (omega arith) (omega (arith, few)) hj)
+                ∙ rw (m, eq-eqb a a refl, or-false);
+          })
+      go x lx p (no z) =
+          let g : getD (set firsts h a) x 0 ≡ getD firsts x 0 = getD-set-other firsts h x a 0 z in
+          let w = k .walked x lx (subst (λ (n : ℕ). 0 < n) g p) in
+          rw g
+          (record {
+            one = w .one;
+            below = omega (arith, w .below);
+            heads = w .heads;
+            ending = w .ending;
+            tells = λ j hj.
+                other (getD firsts x 0 - 1) j (omega (arith, w .one, w .below, few)) hj
+                (λ e. omega (arith, w .one, w .below))
+                (stands (j + 1) (chain c (getD firsts x 0))) (w .tells j hj);
+          })

@@ -1,0 +1,14 @@
+-- What the call that reads a catalogue promises: the answer that lines 1 to 6 give, and the conflicts where none holds.
+use Prim.Native.Nat.{ℕ}
+use mathlib.Core.Path.{_≡_}
+use mathlib.Core.List.{List}
+use mathlib.Core.Option.{none}
+use Rattle.refusal.specs.Line.{toldChecked, firstLine, orElse}
+use Rattle.refusal.specs.declared.Checked.{Checked}
+use Rattle.input_catalogue.specs.Catalogue.{commands, catalogueLines}
+use Rattle.input_catalogue.specs.Conflict.{Conflicts}
+
+-- c is the catalogue, rows are the lent rows as the call leaves them, r is its answer
+pub record Reading (c : List ℕ) (rows : List (List ℕ)) (r : Checked) : Type 0 where
+  pub answer : toldChecked r ≡ orElse (firstLine (catalogueLines c)) (commands c)
+  pub conflicts : firstLine (catalogueLines c) ≡ none → Conflicts c rows

@@ -1,0 +1,98 @@
+-- `long_form::read_off` meets its contract. The loop's invariant: l letters are written, and the stacks are those of
+-- the word that is left. The measure is what is left of the area. Assumes nothing.
+use Prim.Native.Nat.{_-_}
+use native.Mathlib.Omega.{arith}
+use lib.ListN.{length}
+use borrow.Author.Needs.{needs}
+use Rattle.long_form.specs.ReadLaws.{Underway, underway-start, underway-end, underway-again}
+use Rattle.long_form.specs.ReadLaws.{underway-inside, underway-fits, underway-cuttable}
+use Rattle.long_form.proofs.read_off.Statement.{statement}
+use Rattle.long_form.proofs.read_off.Tie as tie
+
+abbrev Inv-loop : tie.InvT-loop
+Inv-loop word conflicts under link tops₀ blanks₀ area₀ l₀ k₀ tops blanks area l k =
+    Underway conflicts word under link tops₀ blanks₀ area₀ tops blanks area l k
+
+abbrev μ-loop : tie.MeasureT-loop
+μ-loop word conflicts under link tops₀ blanks₀ area₀ l₀ k₀ tops blanks area l k = length area₀ - l
+
+ready-requires : tie.Need-ready-requires Inv-loop μ-loop
+ready-requires c κs = search needs
+
+loop-holds : tie.Need-loop-holds Inv-loop μ-loop
+loop-holds c = underway-start (c .before .before .before .before .before .before .pre) (c .ready .ensures)
+
+mul-area : tie.Need-mul-area Inv-loop μ-loop
+mul-area c = omega arith
+
+element-copy-out-area : tie.Need-element-copy-out-area Inv-loop μ-loop
+element-copy-out-area c = omega arith
+
+cast-area : tie.Need-cast-area Inv-loop μ-loop
+cast-area c = omega (arith, underway-cuttable (c .before .before .loop .inv) (omega arith) .low)
+
+sub-area : tie.Need-sub-area Inv-loop μ-loop
+sub-area c = underway-cuttable (c .before .before .loop .inv) (omega arith) .some
+
+shared-slice-read-area : tie.Need-shared-slice-read-area Inv-loop μ-loop
+shared-slice-read-area c = underway-inside (c .before .before .before .loop .inv) (omega arith)
+
+slice-write-area : tie.Need-slice-write-area Inv-loop μ-loop
+slice-write-area c = underway-fits (c .before .before .before .loop .inv) (omega arith)
+
+add-l : tie.Need-add-l Inv-loop μ-loop
+add-l c = omega (arith, underway-fits (c .before .before .before .loop .inv) (omega arith))
+
+mul-line : tie.Need-mul-line Inv-loop μ-loop
+mul-line c = omega arith
+
+element-copy-out-line : tie.Need-element-copy-out-line Inv-loop μ-loop
+element-copy-out-line c = omega arith
+
+cut-requires : tie.Need-cut-requires Inv-loop μ-loop
+cut-requires c κs =
+    let l = c .before .before .before .before .before .before .before in
+    underway-cuttable (l .loop .inv) (omega arith)
+
+ready-requires-2 : tie.Need-ready-requires-2 Inv-loop μ-loop
+ready-requires-2 c κs = search needs
+
+loop-less : tie.Need-loop-less Inv-loop μ-loop
+loop-less c =
+    let l = c .before .before .before .before .before .before .before .before .before .before in
+    omega (arith, underway-fits (l .loop .inv) (omega arith), l .loop .inv .long)
+
+loop-again : tie.Need-loop-again Inv-loop μ-loop
+loop-again c =
+    let l = c .before .before .before .before .before .before .before .before .before .before in
+    underway-again (l .loop .inv) (omega arith) (c .before .before .cut .ensures) (c .ready2 .ensures)
+
+same-length : tie.Need-same-length Inv-loop μ-loop
+same-length c = c .before .loop .inv .long
+
+returns : tie.Need-returns Inv-loop μ-loop
+returns c = underway-end (c .before .loop .inv) (c .loop-test .left)
+
+pub read-off-spec : {M : Type 1} → statement M
+read-off-spec =
+    tie.close
+    (tie.spec
+    Inv-loop
+    μ-loop
+    ready-requires
+    loop-holds
+    mul-area
+    element-copy-out-area
+    cast-area
+    sub-area
+    shared-slice-read-area
+    slice-write-area
+    add-l
+    mul-line
+    element-copy-out-line
+    cut-requires
+    ready-requires-2
+    loop-less
+    loop-again
+    same-length
+    returns)

@@ -1,0 +1,62 @@
+-- `long_form::ready` meets its contract. The loop's invariant: blanks are counted at each index below k. Assumes
+-- nothing.
+use Prim.Native.Nat.{ℕ, _-_, _≤_, _<_}
+use native.Mathlib.Omega.{arith}
+use mathlib.Core.Path.{_≡_}
+use borrow.Author.Count.{below-more}
+use lib.ListN.{getD}
+use Rattle.long_form.proofs.ready.Statement.{statement}
+use Rattle.long_form.proofs.ready.Tie as tie
+
+abbrev Inv-loop : tie.InvT-loop
+Inv-loop blanks k₀ k = (k ≤ 24) × ((j : ℕ) → j < k → getD blanks j 0 ≡ 0 → ⊥)
+
+abbrev μ-loop : tie.MeasureT-loop
+μ-loop blanks k₀ k = 24 - k
+
+loop-holds : tie.Need-loop-holds Inv-loop μ-loop
+loop-holds c = (omega arith, λ j l. absurd (omega arith))
+
+mul-if1 : tie.Need-mul-if1 Inv-loop μ-loop
+mul-if1 c = omega arith
+
+element-copy-out-if1 : tie.Need-element-copy-out-if1 Inv-loop μ-loop
+element-copy-out-if1 c = omega arith
+
+returns : tie.Need-returns Inv-loop μ-loop
+returns c = record {
+  within = omega arith;
+  before = c .before .before .before .loop .inv .1;
+  found = λ l. c .if1 .taken;
+}
+
+add-k : tie.Need-add-k Inv-loop μ-loop
+add-k c = omega arith
+
+loop-less : tie.Need-loop-less Inv-loop μ-loop
+loop-less c = omega arith
+
+loop-again : tie.Need-loop-again Inv-loop μ-loop
+loop-again c = (omega arith, below-more _ _ (c .before .before .before .loop .inv .1) (c .if1 .left))
+
+returns-2 : tie.Need-returns-2 Inv-loop μ-loop
+returns-2 c = record {
+  within = omega arith;
+  before = c .before .loop .inv .1;
+  found = λ l. absurd (omega arith);
+}
+
+pub ready-spec : {M : Type 1} → statement M
+ready-spec =
+    tie.close
+    (tie.spec
+    Inv-loop
+    μ-loop
+    loop-holds
+    mul-if1
+    element-copy-out-if1
+    returns
+    add-k
+    loop-less
+    loop-again
+    returns-2)

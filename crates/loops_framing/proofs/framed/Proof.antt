@@ -1,0 +1,64 @@
+-- `framed` computes the places and tests them as `frame` does; each return is one case of its tests.
+use Rattle.loops_framing.specs.FramingLaws.{long-badly, other-badly, whole-well}
+use Prim.Native.Nat.{ℕ, _+_, _*_}
+use mathlib.Core.Path.{ap₂}
+use borrow.Author.Needs.{needs}
+use Rattle.loops_framing.proofs.framed.Statement.{statement}
+use Rattle.loops_framing.proofs.framed.Tie as tie
+
+returns : tie.Need-returns
+returns c = long-badly (c .before .before .args .s .now) (c .if1 .taken)
+
+byte-at-requires : tie.Need-byte-at-requires
+byte-at-requires c κs = search needs
+
+add-first : tie.Need-add-first
+add-first c = search needs
+
+byte-at-requires-2 : tie.Need-byte-at-requires-2
+byte-at-requires-2 c κs = search needs
+
+mul-first : tie.Need-mul-first
+mul-first c = search needs
+
+add-first-2 : tie.Need-add-first-2
+add-first-2 c = search needs
+
+plan-end-requires : tie.Need-plan-end-requires
+plan-end-requires c κs = search needs
+
+plan-end-requires-2 : tie.Need-plan-end-requires-2
+plan-end-requires-2 c κs = search needs
+
+returns-2 : tie.Need-returns-2
+returns-2 c =
+    other-badly (c .before .before .before .before .before .before .before .args .s .now)
+    (ap₂ (λ (a b : ℕ). 2 + a + 2 * b)
+    (c .before .before .before .before .byte-at .ensures .0)
+    (c .before .before .before .byte-at2 .ensures .0))
+    (c .before .before .plan-end .ensures .0)
+    (c .before .plan-end2 .ensures .0) (c .if2 .taken)
+
+returns-3 : tie.Need-returns-3
+returns-3 c =
+    whole-well (c .before .before .before .before .before .before .before .args .s .now)
+    (ap₂ (λ (a b : ℕ). 2 + a + 2 * b)
+    (c .before .before .before .before .byte-at .ensures .0)
+    (c .before .before .before .byte-at2 .ensures .0))
+    (c .before .before .plan-end .ensures .0)
+    (c .before .plan-end2 .ensures .0) (c .before .before .before .before .before .if1 .left) (c .if2 .left)
+
+pub framed-spec : {M : Type 1} → statement M
+framed-spec =
+    tie.close
+    (tie.spec
+    returns
+    byte-at-requires
+    add-first
+    byte-at-requires-2
+    mul-first
+    add-first-2
+    plan-end-requires
+    plan-end-requires-2
+    returns-2
+    returns-3)

@@ -1,0 +1,48 @@
+-- `put_decimal` copies what io::decimal makes, at most 20 digits, behind what stands there.
+use native.Mathlib.Omega.{arith}
+use Prim.Native.Nat.{_≤_}
+use lib.ListN.{take}
+use Rattle.loops_listing.specs.PutLaws.{decimal-short}
+use borrow.Author.Needs.{needs}
+use Rattle.loops_listing.proofs.put_decimal.Statement.{statement}
+use Rattle.loops_listing.proofs.put_decimal.Tie as tie
+
+decimal-requires : tie.Need-decimal-requires
+decimal-requires c κs = search needs
+
+array-share-prefix-digits : tie.Need-array-share-prefix-digits
+array-share-prefix-digits c = search needs
+
+slice-aggregate-append : tie.Need-slice-aggregate-append
+slice-aggregate-append c = search needs
+
+append-requires : tie.Need-append-requires
+append-requires c κs =
+    let d = c .before .before .decimal in
+    let k : d .result ≤ 20 = decimal-short (c .before .before .before .before .before .fits .n) (d .ensures .1 .0) in
+    omega (arith, d .ensures .0 .1)
+
+same-length : tie.Need-same-length
+same-length c = search needs
+
+returns : tie.Need-returns
+returns c =
+    let d = c .before .before .before .before .before .decimal in
+    let start = c .before .before .before .before .before .before .before .before in
+    record {
+      text = take (d .result) (d .last .1 .0);
+      says = (d .result, d .ensures .1 .0, d .ensures .1 .1);
+      short = omega (arith, decimal-short (start .fits .n) (d .ensures .1 .0), d .ensures .0 .1);
+      there = c .before .before .append .ensures;
+    }
+
+pub put-decimal-spec : {M : Type 1} → statement M
+put-decimal-spec =
+    tie.close
+    (tie.spec
+    decimal-requires
+    array-share-prefix-digits
+    slice-aggregate-append
+    append-requires
+    same-length
+    returns)

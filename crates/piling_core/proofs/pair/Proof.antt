@@ -1,0 +1,81 @@
+-- `piling_core::pair` meets its contract: no row below i has a pair.
+use Prim.Native.Nat.{_-_}
+use mathlib.Core.Path.{sym, _∙_}
+use mathlib.Core.Bool.{true≢false}
+use native.Mathlib.Omega.{arith}
+use Rattle.piling_core.specs.PairLaws.{Passed, passed-start, passed-again, passed-found, passed-all}
+use Rattle.piling_core.proofs.pair.Statement.{statement}
+use Rattle.piling_core.proofs.pair.Tie as tie
+
+abbrev Inv-loop : tie.InvT-loop
+Inv-loop rows heights at i₀ i = Passed rows heights at i
+
+abbrev μ-loop : tie.MeasureT-loop
+μ-loop rows heights at i₀ i = 24 - i
+
+loop-holds : tie.Need-loop-holds Inv-loop μ-loop
+loop-holds c = passed-start _ _ _
+
+mul-ends : tie.Need-mul-ends Inv-loop μ-loop
+mul-ends c = omega arith
+
+index-1-ends : tie.Need-index-1-ends Inv-loop μ-loop
+index-1-ends c = omega arith
+
+mul-ends-2 : tie.Need-mul-ends-2 Inv-loop μ-loop
+mul-ends-2 c = omega arith
+
+element-copy-out-ends : tie.Need-element-copy-out-ends Inv-loop μ-loop
+element-copy-out-ends c = omega arith
+
+mul-ends-3 : tie.Need-mul-ends-3 Inv-loop μ-loop
+mul-ends-3 c = omega arith
+
+element-copy-out-ends-2 : tie.Need-element-copy-out-ends-2 Inv-loop μ-loop
+element-copy-out-ends-2 c = omega arith
+
+ends-requires : tie.Need-ends-requires Inv-loop μ-loop
+ends-requires c κs =
+    let l = c .before .before .before .before in
+    let r = l .before .pre in
+    (r .shape .wide (l .loop .i) (omega arith), r .low (l .loop .i) (omega arith), r .high (l .loop .i) (omega arith))
+
+returns : tie.Need-returns Inv-loop μ-loop
+returns c =
+    let l = c .before .before .before .before .before .before in
+    passed-found (l .loop .inv) (omega arith) (c .before .ends .ensures .0 (c .if1 .taken))
+
+add-i : tie.Need-add-i Inv-loop μ-loop
+add-i c = omega arith
+
+loop-less : tie.Need-loop-less Inv-loop μ-loop
+loop-less c = omega arith
+
+loop-again : tie.Need-loop-again Inv-loop μ-loop
+loop-again c =
+    let l = c .before .before .before .before .before .before in
+    passed-again (l .loop .inv) (omega arith)
+    (λ o. true≢false (sym (c .before .ends .ensures .1 o) ∙ c .if1 .left))
+
+returns-2 : tie.Need-returns-2 Inv-loop μ-loop
+returns-2 c = passed-all (c .before .loop .inv) (omega arith)
+
+pub pair-spec : {M : Type 1} → statement M
+pair-spec =
+    tie.close
+    (tie.spec
+    Inv-loop
+    μ-loop
+    loop-holds
+    mul-ends
+    index-1-ends
+    mul-ends-2
+    element-copy-out-ends
+    mul-ends-3
+    element-copy-out-ends-2
+    ends-requires
+    returns
+    add-i
+    loop-less
+    loop-again
+    returns-2)

@@ -1,0 +1,115 @@
+-- `piling_core::peel` meets its contract: for every word that the arrays stand for, pairs are taken off it one by one.
+use Prim.Native.Nat.{_-_, _<_}
+use native.Mathlib.Omega.{arith}
+use lib.ListN.{length, getD, length-set}
+use Rattle.piling_core.specs.PeelLaws.{Taken, taken-start, taken-end, taken-long, taken-again}
+use Rattle.piling_core.specs.PeelLaws.{taken-index, taken-fits, taken-movable, taken-room}
+use Rattle.piling_core.proofs.peel.Statement.{statement}
+use Rattle.piling_core.proofs.peel.Tie as tie
+
+abbrev Inv-loop : tie.InvT-loop
+Inv-loop rows heights₀ at₀ conflicts lead₀ l₀ k₀ heights at lead l k =
+    Taken conflicts rows heights₀ at₀ lead₀ heights at lead l k
+
+abbrev μ-loop : tie.MeasureT-loop
+μ-loop rows heights₀ at₀ conflicts lead₀ l₀ k₀ heights at lead l k = length lead - l
+
+-- the bead that is read, and the place that is written, are there
+index : (c : tie.In-loop Inv-loop μ-loop) → getD (c .before .loop .at) (c .before .loop .k) 0 < 1024
+index c =
+    taken-index (c .before .loop .inv) (c .loop-test .taken) (c .before .before .before .before .before .before .pre)
+
+fits : (c : tie.In-loop Inv-loop μ-loop) → c .before .loop .l < length (c .before .loop .lead)
+fits c =
+    taken-fits (c .before .loop .inv) (c .loop-test .taken) (c .before .before .before .before .before .before .pre)
+
+pair-requires : tie.Need-pair-requires Inv-loop μ-loop
+pair-requires c κs = c .before .before .before .pre .2 .left .room
+
+loop-holds : tie.Need-loop-holds Inv-loop μ-loop
+loop-holds c = taken-start (c .pair .ensures)
+
+mul-lead : tie.Need-mul-lead Inv-loop μ-loop
+mul-lead c = omega arith
+
+element-copy-out-lead : tie.Need-element-copy-out-lead Inv-loop μ-loop
+element-copy-out-lead c = omega arith
+
+cast-lead : tie.Need-cast-lead Inv-loop μ-loop
+cast-lead c = omega (arith, index (c .before))
+
+mul-lead-2 : tie.Need-mul-lead-2 Inv-loop μ-loop
+mul-lead-2 c = omega arith
+
+index-1-lead : tie.Need-index-1-lead Inv-loop μ-loop
+index-1-lead c = omega arith
+
+index-2-lead : tie.Need-index-2-lead Inv-loop μ-loop
+index-2-lead c = index (c .before)
+
+slice-write-lead : tie.Need-slice-write-lead Inv-loop μ-loop
+slice-write-lead c = fits (c .before .before)
+
+add-l : tie.Need-add-l Inv-loop μ-loop
+add-l c =
+    let a = c .before .before .before in
+    let z = a .before .before .before .before .before in
+    omega (arith, fits (c .before .before), taken-long (a .loop .inv) (z .pre), z .good .1 .1 .1 .1 .0)
+
+mul-narrow : tie.Need-mul-narrow Inv-loop μ-loop
+mul-narrow c = omega arith
+
+index-1-narrow : tie.Need-index-1-narrow Inv-loop μ-loop
+index-1-narrow c = omega arith
+
+narrow-requires : tie.Need-narrow-requires Inv-loop μ-loop
+narrow-requires c κs =
+    let i = c .before .before .before .before .before in
+    taken-movable (i .before .loop .inv) (i .loop-test .taken) (i .before .before .before .before .before .before .pre)
+
+pair-requires-2 : tie.Need-pair-requires-2 Inv-loop μ-loop
+pair-requires-2 c κs =
+    let i = c .before .before .before .before .before .before .before .before in
+    taken-room (i .before .loop .inv) (i .loop-test .taken) (i .before .before .before .before .before .before .pre)
+    (c .before .before .narrow .ensures)
+
+loop-less : tie.Need-loop-less Inv-loop μ-loop
+loop-less c =
+    simp length-set (omega (arith, fits (c .before .before .before .before .before .before .before .before .before)))
+
+loop-again : tie.Need-loop-again Inv-loop μ-loop
+loop-again c =
+    let i = c .before .before .before .before .before .before .before .before .before in
+    taken-again (i .before .loop .inv) (i .loop-test .taken)
+    (c .before .before .before .narrow .ensures) (c .pair2 .ensures)
+
+same-length : tie.Need-same-length Inv-loop μ-loop
+same-length c = taken-long (c .before .loop .inv) (c .before .before .before .before .before .before .pre)
+
+returns : tie.Need-returns Inv-loop μ-loop
+returns c = taken-end (c .before .loop .inv) (c .loop-test .left)
+
+pub peel-spec : {M : Type 1} → statement M
+peel-spec =
+    tie.close
+    (tie.spec
+    Inv-loop
+    μ-loop
+    pair-requires
+    loop-holds
+    mul-lead
+    element-copy-out-lead
+    cast-lead
+    mul-lead-2
+    index-1-lead
+    index-2-lead
+    slice-write-lead
+    add-l
+    mul-narrow
+    index-1-narrow
+    narrow-requires
+    pair-requires-2
+    loop-less
+    loop-again
+    same-length
+    returns)

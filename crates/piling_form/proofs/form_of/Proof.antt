@@ -1,0 +1,96 @@
+-- `piling_form::form_of` meets its contract: what remains of the piling is read off. Assumes nothing.
+use Prim.Native.Nat.{ℕ}
+use mathlib.Core.List.{List, reverse}
+use Rattle.piling_stacks.specs.Pile.{reduced}
+use Rattle.piling_core.specs.Peeling.{Peelable}
+use Rattle.engine.specs.Passed.{Passed}
+use Rattle.engine.specs.EngineLaws.{passed-given}
+use Rattle.piling_form.specs.CoringLaws.{passed-peelable, remains-readable, formed}
+use borrow.Author.Needs.{needs}
+use Rattle.piling_form.proofs.form_of.Statement.{statement}
+use Rattle.piling_form.proofs.form_of.Tie as tie
+
+abbrev start : tie.After-heights → tie.Start
+start h = h .before .before .before .before .before .before .before
+
+-- the piling, and that pairs can be taken off it
+module _ (c : tie.After-peel-if-arg) (k : List ℕ) where
+  abbrev piled : tie.After-blank-heights2
+  piled = c .before .before .before .before
+
+  abbrev here : tie.Start
+  here = start (piled .before .before)
+
+  abbrev plan : List ℕ
+  plan = here .args .plan .now
+
+  peelable : Passed k (here .args .conflicts .now) plan
+      → Peelable k (here .args .conflicts .now) (piled .before .pile .last .1 .1 .0)
+      (piled .before .pile .last .1 .1 .1 .0) (piled .blank-heights2 .result) (reverse (reduced k plan))
+      (here .args .lead .now)
+  peelable p =
+      let h = piled .before .before in
+      let r = h .before .before .before .blank-rows .ensures in
+      let g = passed-given p r (h .before .before .blank-heights .ensures) in
+      passed-peelable p (here .args .lead .now) (piled .before .pile .ensures k g .piled)
+      (piled .blank-heights2 .ensures) (here .pre .2 .deep)
+
+blank-rows-requires : tie.Need-blank-rows-requires
+blank-rows-requires c κs = search needs
+
+blank-heights-requires : tie.Need-blank-heights-requires
+blank-heights-requires c κs = search needs
+
+pile-requires : tie.Need-pile-requires
+pile-requires c κs =
+    let s = start c in
+    let r = c .before .before .before .blank-rows .ensures in
+    (s .pre .0, passed-given (s .pre .1) r (c .before .before .blank-heights .ensures))
+
+blank-heights-requires-2 : tie.Need-blank-heights-requires-2
+blank-heights-requires-2 c κs = search needs
+
+peel-if-requires : tie.Need-peel-if-requires
+peel-if-requires c κs =
+    let k = start (c .before .before .before .before .before .before) .pre .0 in
+    (k, reverse (reduced k (plan c k)), peelable c k (here c k .pre .1))
+
+read-off-requires : tie.Need-read-off-requires
+read-off-requires c κs =
+    let e = c .before .before .before in
+    let a = e .before in
+    let s = start (a .before .before .before .before .before .before) in
+    let k = s .pre .0 in
+    let q = e .peel-if .ensures k (reverse (reduced k (s .args .plan .now))) (peelable a k (s .pre .1)) in
+    (k, q .0, remains-readable (s .pre .1) (s .args .area .now) (q .1) (s .pre .2 .wide))
+
+same-length : tie.Need-same-length
+same-length c = search needs
+
+same-length-2 : tie.Need-same-length-2
+same-length-2 c = search needs
+
+returns : tie.Need-returns
+returns c =
+    let o = c .before .before in
+    let e = o .before .before .before .before in
+    let a = e .before in
+    let s = start (a .before .before .before .before .before .before) in
+    λ k p.
+    let q = e .peel-if .ensures k (reverse (reduced k (s .args .plan .now))) (peelable a k p) in
+    formed (q .1) (s .pre .2 .deep)
+    (o .read-off .ensures k (q .0) (remains-readable p (s .args .area .now) (q .1) (s .pre .2 .wide)))
+
+pub form-of-spec : {M : Type 1} → statement M
+form-of-spec =
+    tie.close
+    (tie.spec
+    blank-rows-requires
+    blank-heights-requires
+    pile-requires
+    blank-heights-requires-2
+    peel-if-requires
+    read-off-requires
+    same-length
+    same-length-2
+    returns)

@@ -1,0 +1,85 @@
+// The normal form of a plan that has passed its checks, or that of its core: the plan is piled up, pairs are taken off
+// where the core is wanted, and what is left is read off. A piling is a local array of rows beside an array of heights.
+
+ghost use Prim.Native.Nat.{ℕ, _≤_};
+ghost use mathlib.Core.Path.{_≡_};
+ghost use mathlib.Core.List.{List};
+ghost use lib.ListN.{length};
+ghost use Rattle.input_plan.specs.Area.{StartsWith};
+ghost use Rattle.engine.specs.Passed.{Passed};
+ghost use Rattle.piling_core.specs.Peeling.{Peelable};
+ghost use Rattle.piling_form.specs.Coring.{form, Room, Remains, FormOf};
+
+// The length of the form, and the number of letters taken off in front.
+pub struct Formed {
+    pub form: usize,
+    pub lead: usize,
+}
+
+// Takes pairs off, as `peel` does, where the core is wanted; else nothing changes.
+fn peel_if(
+    rows: &[[u8; 1024]; 24],
+    heights: &mut [u16; 24],
+    at: &mut [u16; 24],
+    conflicts: &[[u16; 24]; 24],
+    lead: &mut [u8],
+    cored: bool,
+) -> usize
+    requires { ⌜ ((c : List ℕ) × (x : List ℕ)
+        × Peelable c (now conflicts) (now rows) (now heights) (now at) x (now lead)) ⌝ }
+    ensures { λ r.
+        ⌜ ((c x : List ℕ)
+        → Peelable c (now (conflicts .entry)) (now (rows .entry)) (now (heights .entry)) (now (at .entry)) x
+        (now (lead .entry))
+        → (z : List ℕ) × Remains c (now (rows .entry)) x (now (lead .entry)) (now (heights .exit))
+        (now (at .exit)) cored (now (lead .exit)) r z) ⌝ }
+{
+    if cored {
+        return piling_core::peel(rows, heights, at, conflicts, lead);
+    }
+    0
+}
+
+// Writes the normal form of plan, or that of its core, at the start of area; with the core, at the start of lead, the
+// letters that were taken off in front.
+pub fn form_of(
+    plan: &[u8],
+    conflicts: &[[u16; 24]; 24],
+    area: &mut [u8],
+    lead: &mut [u8],
+    cored: bool,
+) -> Formed
+    requires { ⌜ ((c : List ℕ) × Passed c (now conflicts) (now plan) × Room (now plan) (now area) (now lead)) ⌝ }
+    ensures { λ r. ⌜ ((c : List ℕ) → Passed c (now (conflicts .entry)) (now (plan .entry))
+        → FormOf c (now (plan .entry)) (now (area .entry)) (now (lead .entry)) cored (now (area .exit))
+        (now (lead .exit)) (r .form) (r .lead)) ⌝ }
+{
+    let mut rows = array_counts::blank_rows();
+    let mut heights = array_counts::blank_heights();
+    piling_stacks::pile(plan, conflicts, &mut rows, &mut heights);
+    let mut bottoms = array_counts::blank_heights();
+    let taken = peel_if(&rows, &mut heights, &mut bottoms, conflicts, lead, cored);
+    let left = piling_read::read_off(rows, heights, bottoms, conflicts, area);
+    Formed {
+        form: left,
+        lead: taken,
+    }
+}
+
+// A row for the letters taken off the longest plan.
+fn blank_lead() -> [u8; 512]
+    ensures { λ r. ⌜ 512 ≡ length r ⌝ }
+{
+    [0; 512]
+}
+
+// The same for a caller who wants the form alone; its length.
+pub fn form(plan: &[u8], conflicts: &[[u16; 24]; 24], area: &mut [u8], cored: bool) -> usize
+    requires { ⌜ ((c : List ℕ) × Passed c (now conflicts) (now plan) × (length (now plan) ≤ length (now area))) ⌝ }
+    ensures { λ r. ⌜ ((c : List ℕ) → Passed c (now (conflicts .entry)) (now (plan .entry))
+        → StartsWith (form cored c (now (plan .entry))) (now (area .entry)) (now (area .exit)) r) ⌝ }
+{
+    let mut lead = blank_lead();
+    let formed = form_of(plan, conflicts, area, &mut lead, cored);
+    formed.form
+}

@@ -1,0 +1,108 @@
+-- `piling_read::ready_from` meets its contract: no row below k is ready.
+use Prim.Native.Nat.{_-_, _<_}
+use lib.ListN.{getD}
+use denote.Ref.{now}
+use native.Mathlib.Omega.{arith}
+use mathlib.Core.Logic.{⊎-elim}
+use Rattle.piling_read.specs.Reading.{Passed}
+use Rattle.piling_read.specs.ReadyLaws.{
+  ready-index,
+  passed-empty,
+  passed-blank,
+  passed-found,
+  passed-all,
+}
+use Rattle.piling_read.proofs.ready_from.Statement.{statement}
+use Rattle.piling_read.proofs.ready_from.Tie as tie
+
+abbrev Inv-loop : tie.InvT-loop
+Inv-loop rows heights at start k₀ k = Passed rows heights at k
+
+abbrev μ-loop : tie.MeasureT-loop
+μ-loop rows heights at start k₀ k = 24 - k
+
+-- a bead that is left is one of the row's 1,024
+index : (c : tie.Then1 Inv-loop μ-loop)
+    → let a = c .before .before .before .before in getD (now (a .before .args .at)) (a .loop .k) 0 < 1024
+index c =
+    let i = c .before .before .before in
+    ready-index (i .before .before .pre .0) (i .loop-test .taken) (c .if1 .taken)
+
+loop-holds : tie.Need-loop-holds Inv-loop μ-loop
+loop-holds c = c .pre .1
+
+mul-if1 : tie.Need-mul-if1 Inv-loop μ-loop
+mul-if1 c = omega arith
+
+element-copy-out-if1 : tie.Need-element-copy-out-if1 Inv-loop μ-loop
+element-copy-out-if1 c = omega arith
+
+mul-if1-2 : tie.Need-mul-if1-2 Inv-loop μ-loop
+mul-if1-2 c = omega arith
+
+element-copy-out-if1-2 : tie.Need-element-copy-out-if1-2 Inv-loop μ-loop
+element-copy-out-if1-2 c = omega arith
+
+mul-if2 : tie.Need-mul-if2 Inv-loop μ-loop
+mul-if2 c = omega arith
+
+element-copy-out-if2 : tie.Need-element-copy-out-if2 Inv-loop μ-loop
+element-copy-out-if2 c = omega arith
+
+cast-if2 : tie.Need-cast-if2 Inv-loop μ-loop
+cast-if2 c = omega (arith, index (c .before))
+
+mul-if2-2 : tie.Need-mul-if2-2 Inv-loop μ-loop
+mul-if2-2 c = omega arith
+
+index-1-if2 : tie.Need-index-1-if2 Inv-loop μ-loop
+index-1-if2 c = omega arith
+
+index-2-if2 : tie.Need-index-2-if2 Inv-loop μ-loop
+index-2-if2 c = index (c .before)
+
+returns : tie.Need-returns Inv-loop μ-loop
+returns c =
+    let i = c .before .before .before .before .before .before in
+    let t = c .before .before .before .if1 .taken in
+    passed-found (i .before .loop .inv) (i .loop-test .taken) (t, c .if2 .taken)
+
+add-k : tie.Need-add-k Inv-loop μ-loop
+add-k c = omega arith
+
+loop-less : tie.Need-loop-less Inv-loop μ-loop
+loop-less c = omega arith
+
+loop-again : tie.Need-loop-again Inv-loop μ-loop
+loop-again c =
+    let i = c .before .before .before in
+    ⊎-elim
+    (λ w. passed-blank (i .before .loop .inv) (i .loop-test .taken) (w .3 .left))
+    (λ w. passed-empty (i .before .loop .inv) (i .loop-test .taken) (w .left))
+    (c .if1 .came)
+
+returns-2 : tie.Need-returns-2 Inv-loop μ-loop
+returns-2 c = passed-all (c .before .loop .inv) (c .loop-test .left)
+
+pub ready-from-spec : {M : Type 1} → statement M
+ready-from-spec =
+    tie.close
+    (tie.spec
+    Inv-loop
+    μ-loop
+    loop-holds
+    mul-if1
+    element-copy-out-if1
+    mul-if1-2
+    element-copy-out-if1-2
+    mul-if2
+    element-copy-out-if2
+    cast-if2
+    mul-if2-2
+    index-1-if2
+    index-2-if2
+    returns
+    add-k
+    loop-less
+    loop-again
+    returns-2)

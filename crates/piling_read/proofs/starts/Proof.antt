@@ -1,0 +1,77 @@
+-- `piling_read::starts` meets its contract: the lines below j have been counted.
+use Prim.Native.Nat.{_-_}
+use native.Mathlib.Omega.{arith}
+use Rattle.piling_read.specs.StartsLaws.{
+  Counting,
+  counting-start,
+  counting-line,
+  counting-room,
+  counting-again,
+  counting-end,
+}
+use Rattle.piling_read.proofs.starts.Statement.{statement}
+use Rattle.piling_read.proofs.starts.Tie as tie
+
+abbrev Inv-loop : tie.InvT-loop
+Inv-loop conflicts counts₀ free₀ j₀ counts free j = Counting conflicts counts free j
+
+abbrev μ-loop : tie.MeasureT-loop
+μ-loop conflicts counts₀ free₀ j₀ counts free j = 24 - j
+
+blank-heights-requires : tie.Need-blank-heights-requires Inv-loop μ-loop
+blank-heights-requires c κs = tt
+
+ones-requires : tie.Need-ones-requires Inv-loop μ-loop
+ones-requires c κs = tt
+
+loop-holds : tie.Need-loop-holds Inv-loop μ-loop
+loop-holds c = counting-start (c .before .blank-heights .ensures) (c .ones .ensures)
+
+mul-clear : tie.Need-mul-clear Inv-loop μ-loop
+mul-clear c = omega arith
+
+index-1-clear : tie.Need-index-1-clear Inv-loop μ-loop
+index-1-clear c = omega arith
+
+clear-requires : tie.Need-clear-requires Inv-loop μ-loop
+clear-requires c κs =
+    let i = c .before .before in
+    counting-line (i .before .loop .inv) (i .loop-test .taken) (i .before .before .before .before .pre)
+
+lift-requires : tie.Need-lift-requires Inv-loop μ-loop
+lift-requires c κs =
+    let i = c .before .before .before .before .before in
+    counting-room (i .before .loop .inv) (i .loop-test .taken) (c .before .before .clear .ensures)
+
+add-j : tie.Need-add-j Inv-loop μ-loop
+add-j c = omega arith
+
+loop-less : tie.Need-loop-less Inv-loop μ-loop
+loop-less c = omega arith
+
+loop-again : tie.Need-loop-again Inv-loop μ-loop
+loop-again c =
+    let i = c .before .before .before .before .before .before in
+    counting-again (i .before .loop .inv) (i .loop-test .taken) (c .before .before .before .clear .ensures)
+    (c .lift .ensures)
+
+returns : tie.Need-returns Inv-loop μ-loop
+returns c = counting-end (c .before .loop .inv)
+
+pub starts-spec : {M : Type 1} → statement M
+starts-spec =
+    tie.close
+    (tie.spec
+    Inv-loop
+    μ-loop
+    blank-heights-requires
+    ones-requires
+    loop-holds
+    mul-clear
+    index-1-clear
+    clear-requires
+    lift-requires
+    add-j
+    loop-less
+    loop-again
+    returns)

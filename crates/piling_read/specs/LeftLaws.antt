@@ -1,0 +1,126 @@
+-- What is left of a piling: a row that is ready shows a letter that can come first, the first such row the smallest,
+-- and a letter takes one bead off each row whose command conflicts with it.
+use Prim.Native.Nat.{ℕ, suc, _+_, _-_, _<_, _≤_}
+use mathlib.Core.Path.{_≡_, refl, sym, _∙_, ap, subst}
+use mathlib.Core.Bool.{Bool, true, false}
+use mathlib.Core.List.{List, [], _∷_, head-eq-of-cons-eq}
+use native.Mathlib.Omega.{arith}
+use native.Mathlib.Decide.{decLt}
+use lib.ListN.{length, getD, take, drop, length-append}
+use lib.Dec.{eqb}
+use lib.Seq.{slice, slice-cons, length-slice, drop-drop, drop-at}
+use Rattle.theory_words.specs.All.{all-pick}
+use Rattle.theory_words.specs.Trace.{Pick, First}
+use Rattle.theory_words.specs.TraceLaws.{first-none}
+use Rattle.theory_words.specs.Stack.{mark, mark-step, proj}
+use Rattle.theory_words.specs.StackLaws.{proj-pick, proj-first, proj-front}
+use Rattle.input_catalogue.specs.Conflict.{conflict, bit, Conflicts}
+use Rattle.input_catalogue.specs.ConflictLaws.{conflict-sym}
+use Rattle.input_plan.specs.Byte.{commandOf}
+use Rattle.input_plan.specs.Letters.{alphabet}
+use Rattle.input_plan.specs.Lettered.{Lettered}
+use Rattle.input_plan.specs.LetteredLaws.{lettered-filler}
+use Rattle.array_counts.specs.Heights.{Both, Changed}
+use Rattle.piling_read.specs.Reading.{lowest, beadsLeft, Ready, FirstReady, Left}
+
+-- a letter puts one bead on a stack whose command conflicts with it
+pub mark-count : (c : List ℕ) (k b : ℕ) → length (mark (alphabet c) 0 k b) ≡ bit (conflict c k (commandOf b))
+unfolding mark mark-step
+mark-count c k b = go (conflict c k (commandOf b)) (eqb (commandOf b) k)
+  where
+    go : (t o : Bool) → length (mark-step (alphabet c) 0 t o b) ≡ bit t
+    go false o = refl
+    go true false = refl
+    go true true = refl
+
+-- how many beads a letter of command k + 1 puts on row i
+pub line-count : {c : List ℕ} {table : List (List ℕ)} (k b : ℕ) → Conflicts c table → k < 24 → commandOf b ≡ k + 1
+    → (i : ℕ) → i < 24 → getD (getD table k []) i 0 ≡ length (mark (alphabet c) 0 (i + 1) b)
+line-count {c} k b t l m i h =
+    t .tells k i l h ∙ ap bit (conflict-sym c (k + 1) (i + 1) ∙ ap (conflict c (i + 1)) (sym m))
+    ∙ sym (mark-count c (i + 1) b)
+
+module _ {rows : List (List ℕ)} {heights c at y : List ℕ} (e : Left rows heights c at y) where
+  left-wide : (i : ℕ) → i < 24 → getD heights i 0 ≤ length (getD rows i [])
+  left-wide i l = omega (arith, e .room .high i l, e .room .shape .wide i l)
+
+  left-count : (i : ℕ) → i < 24 → length (beadsLeft rows heights at i) ≡ getD heights i 0 - getD at i 0
+  left-count i l = length-slice (getD at i 0) (getD heights i 0) (getD rows i []) (left-wide i l)
+
+  left-cons : (i : ℕ) → i < 24 → getD at i 0 < getD heights i 0
+      → beadsLeft rows heights at i ≡ lowest rows at i ∷ slice (suc (getD at i 0)) (getD heights i 0) (getD rows i [])
+  left-cons i l h = slice-cons (getD at i 0) (getD heights i 0) (getD rows i []) 0 h (left-wide i l)
+
+  -- a row that is ready shows a letter that can come first
+  pub left-shows : (k : ℕ) → k < 24 → Ready rows heights at k
+      → (commandOf (lowest rows at k) ≡ k + 1) × First (alphabet c) (lowest rows at k) y
+  left-shows k l (h, n) = proj-front (alphabet c) 0 (k + 1) y (sym (e .beads k l) ∙ left-cons k l h) n
+
+  -- a letter that can come first makes its row ready
+  left-ready : {d : ℕ} (r : ℕ) {s : List ℕ} → Pick (alphabet c) d y s → commandOf d ≡ r + 1 → Ready rows heights at r
+  left-ready {d} r {s} p m =
+      let t : Lettered d = all-pick (alphabet c) Lettered p (e .letters) .0 in
+      let l : r < 24 = omega (arith, t .1) in
+      let q = subst (λ k. proj (alphabet c) 0 k y ≡ d ∷ proj (alphabet c) 0 k s) m (proj-first (alphabet c) 0 p) in
+      let f : beadsLeft rows heights at r ≡ d ∷ proj (alphabet c) 0 (r + 1) s = e .beads r l ∙ q in
+      let h : getD at r 0 < getD heights r 0 = omega (arith, ap length f, left-count r l) in
+      let g : lowest rows at r ≡ d = head-eq-of-cons-eq (sym (left-cons r l h) ∙ f) in
+      (h, λ z. lettered-filler t (sym g ∙ z))
+
+  -- the first row that is ready has the smallest command of all that can come first
+  pub left-least : {k : ℕ} → FirstReady rows heights at k → (d : ℕ) → First (alphabet c) d y → k + 1 ≤ commandOf d
+  left-least {k} f d (s, p) = go (decLt (commandOf d - 1) k)
+    where
+      t : 1 ≤ commandOf d
+      t = all-pick (alphabet c) Lettered p (e .letters) .0 .0
+
+      go : Dec (commandOf d - 1 < k) → k + 1 ≤ commandOf d
+      go (yes h) = absurd (f .before (commandOf d - 1) h (left-ready (commandOf d - 1) p (omega (arith, t))))
+      go (no h) = omega (arith, t)
+
+  -- where no row is ready no letter is left
+  pub left-none : {k : ℕ} → FirstReady rows heights at k → 24 ≤ k → y ≡ []
+  left-none {k} f h = first-none (alphabet c) y λ d o.
+      let t : Lettered d = all-pick (alphabet c) Lettered (o .1) (e .letters) .0 in
+      omega (arith, left-least f d o)
+
+  -- taking a letter off
+  module _ {table : List (List ℕ)} {k b : ℕ} {r : List ℕ} (t : Conflicts c table) (l : k < 24)
+      (m : commandOf b ≡ k + 1) (p : Pick (alphabet c) b y r) where
+    line-low : (i : ℕ) → i < 24 → getD at i 0 + getD (getD table k []) i 0 ≤ getD heights i 0
+    line-low i h = omega (
+      arith,
+      line-count k b t l m i h,
+      left-count i h,
+      ap length (e .beads i h ∙ proj-pick (alphabet c) 0 (i + 1) p),
+      length-append (mark (alphabet c) 0 (i + 1) b) (proj (alphabet c) 0 (i + 1) r),
+      e .room .low i h,
+    )
+
+    pub left-fits : Both (λ h n. h + n < 65536) at (getD table k [])
+    left-fits = record {
+      many = e .room .many;
+      wide = t .wide k l;
+      holds = λ i h. omega (arith, line-low i h, e .room .high i h);
+    }
+
+    pub left-next : {after : List ℕ} → Changed _+_ (getD table k []) at after → Left rows heights c after r
+    left-next {after} a = record {
+      room = record {
+        shape = e .room .shape;
+        many = a .kept ∙ e .room .many;
+        low = λ i h. omega (arith, a .each i h, line-low i h);
+        high = e .room .high;
+      };
+      letters = all-pick (alphabet c) Lettered p (e .letters) .1;
+      beads = λ i h. ap (λ n. slice n (getD heights i 0) (getD rows i [])) (a .each i h) ∙ next-beads i h;
+    }
+      where
+        next-beads : (i : ℕ) → i < 24
+            → slice (getD at i 0 + getD (getD table k []) i 0) (getD heights i 0) (getD rows i [])
+            ≡ proj (alphabet c) 0 (i + 1) r
+        next-beads i h =
+            sym (drop-drop (getD (getD table k []) i 0) (getD at i 0) (take (getD heights i 0) (getD rows i [])))
+            ∙ ap (drop (getD (getD table k []) i 0)) (e .beads i h ∙ proj-pick (alphabet c) 0 (i + 1) p)
+            ∙ drop-at (mark (alphabet c) 0 (i + 1) b) (proj (alphabet c) 0 (i + 1) r) (getD (getD table k []) i 0)
+            (sym (line-count k b t l m i h))

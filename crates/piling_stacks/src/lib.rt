@@ -1,0 +1,120 @@
+// The piling of a plan: one stack of beads for each command. A letter cancels with its undo on top of the stack of its
+// own command, or puts its byte there and a 0 on each other stack whose command conflicts with it.
+
+use array_counts::lift;
+use array_counts::lower;
+ghost use Prim.Native.Nat.{ℕ, _<_};
+ghost use mathlib.Core.Path.{_≡_};
+ghost use mathlib.Core.List.{List, _∷_};
+ghost use lib.ListN.{length};
+ghost use Rattle.theory_words.specs.Reduce.{act};
+ghost use Rattle.input_plan.specs.Byte.{commandOf, undone};
+ghost use Rattle.input_plan.specs.Letters.{alphabet};
+ghost use Rattle.piling_stacks.specs.Piling.{Piled, Counted};
+ghost use Rattle.piling_stacks.specs.Push.{Facing, Ready, Cancelled};
+ghost use Rattle.piling_stacks.specs.Pile.{Given, reduced};
+
+// The undo of a byte of some command: input_plan::undo less its tests for 0 and 128, in the loop over a plan's letters.
+pub fn opposite(letter: u8) -> u8
+    requires { ⌜ 0 < commandOf letter ⌝ }
+    ensures { λ r. ⌜ r ≡ undone letter ⌝ }
+{
+    if letter < 128 {
+        letter + 128
+    } else {
+        letter - 128
+    }
+}
+
+// Takes a letter's undo off the piling, if it is on top of the stack of the letter's command k + 1, whose line of
+// conflicts tells which stacks it meets. Whether it was there. The bead is written last: so the compiler changes eight
+// heights at a time.
+pub fn cancel(
+    rows: &mut [[u8; 1024]; 24],
+    heights: &mut [u16; 24],
+    line: &[u16; 24],
+    k: usize,
+    letter: u8,
+) -> bool
+    requires { ⌜ ((c : List ℕ) × (z : List ℕ) × Facing c (now rows) (now heights) (now line) k letter z) ⌝ }
+    ensures { λ r. ⌜ ((c z : List ℕ)
+        → Facing c (now (rows .entry)) (now (heights .entry)) (now (line .entry)) k letter z
+        → Cancelled c (now (rows .exit)) (now (heights .exit)) letter z r) ⌝ }
+{
+    let h = heights[k] as usize;
+    if h > 0 {
+        if rows[k][h - 1] == opposite(letter) {
+            lower(heights, line);
+            rows[k][h - 1] = 0;
+            return true;
+        }
+    }
+    false
+}
+
+// Puts a letter of command k + 1 on the piling. Past a stack's height all is 0, so that no 0 has to be written.
+pub fn put(
+    rows: &mut [[u8; 1024]; 24],
+    heights: &mut [u16; 24],
+    line: &[u16; 24],
+    k: usize,
+    letter: u8,
+)
+    requires { ⌜ ((c : List ℕ) × (z : List ℕ) × Ready c (now rows) (now heights) (now line) k letter z) ⌝ }
+    ensures { λ r. ⌜ ((c z : List ℕ)
+        → Ready c (now (rows .entry)) (now (heights .entry)) (now (line .entry)) k letter z
+        → Piled c (now (rows .exit)) (now (heights .exit)) (letter ∷ z)) ⌝ }
+{
+    let h = heights[k] as usize;
+    lift(heights, line);
+    rows[k][h] = letter;
+}
+
+// One letter of command k + 1 on a piling of n letters: it cancels or is put on. The number of letters then.
+pub fn push(
+    rows: &mut [[u8; 1024]; 24],
+    heights: &mut [u16; 24],
+    line: &[u16; 24],
+    k: usize,
+    letter: u8,
+    n: usize,
+) -> usize
+    requires { ⌜ ((c : List ℕ) × (z : List ℕ) × Ready c (now rows) (now heights) (now line) k letter z
+        × (n ≡ length z)) ⌝ }
+    ensures { λ r. ⌜ ((c z : List ℕ)
+        → Ready c (now (rows .entry)) (now (heights .entry)) (now (line .entry)) k letter z → n ≡ length z
+        → Counted c (now (rows .exit)) (now (heights .exit)) (act (alphabet c) letter z) r) ⌝ }
+{
+    if cancel(rows, heights, line, k, letter) {
+        return n - 1;
+    }
+    put(rows, heights, line, k, letter);
+    n + 1
+}
+
+// The piling of a plan that passes, in rows with no bead, and its number of letters. conflicts has a line for each
+// command.
+pub fn pile(
+    plan: &[u8],
+    conflicts: &[[u16; 24]; 24],
+    rows: &mut [[u8; 1024]; 24],
+    heights: &mut [u16; 24],
+) -> usize
+    requires { ⌜ ((c : List ℕ) × Given c (now plan) (now conflicts) (now rows) (now heights)) ⌝ }
+    ensures { λ r. ⌜ ((c : List ℕ)
+        → Given c (now (plan .entry)) (now (conflicts .entry)) (now (rows .entry)) (now (heights .entry))
+        → Counted c (now (rows .exit)) (now (heights .exit)) (reduced c (now (plan .entry))) r) ⌝ }
+{
+    let mut n = 0;
+    let mut i = 0;
+    while i < plan.len() {
+        let letter = plan[i];
+        if letter != 0 {
+            let k = (letter % 128) as usize - 1;
+            let line = conflicts[k];
+            n = push(rows, heights, &line, k, letter, n);
+        }
+        i += 1;
+    }
+    n
+}

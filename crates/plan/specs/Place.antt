@@ -1,9 +1,0 @@
--- What the search for a byte that does not pass finds.
-use Prim.Native.Nat.{ℕ}
-use mathlib.Core.Option.{Option, none, some}
-use Rattle.plan.specs.declared.Place.{Place}
-use Rattle.plan.specs.declared.Place.the-variants.{Nowhere, At}
-
-abbrev pub toldPlace : Place → Option ℕ
-toldPlace Nowhere = none
-toldPlace (At i) = some i

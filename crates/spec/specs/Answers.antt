@@ -1,0 +1,45 @@
+-- What each case of a call's answer says in document 01's numbers.
+use Prim.Native.Nat.{ℕ}
+use mathlib.Core.Bool.{Bool, true, false}
+use mathlib.Core.Option.{Option, none, some}
+use Rattle.refusal.specs.Line.{Answer, refused, given, lineOf}
+use Rattle.spec.specs.declared.Written.{Written}
+use Rattle.spec.specs.declared.Written.the-variants as written
+use Rattle.spec.specs.declared.Equality.{Equality}
+use Rattle.spec.specs.declared.Equality.the-variants as equality
+use Rattle.spec.specs.declared.Loops.{Loops}
+use Rattle.spec.specs.declared.Loops.the-variants as loops
+use Rattle.spec.specs.declared.LeadIn.{LeadIn}
+use Rattle.spec.specs.declared.LeadIn.the-variants as lead-in
+use Rattle.spec.specs.declared.Lengths.{Lengths}
+
+-- the length L of what is written, or a refusal
+abbrev pub toldWritten : Written → Answer ℕ
+toldWritten (written.Length l) = given l
+toldWritten (written.Refused r) = refused (lineOf r)
+
+-- yes (true), no (false), or a refusal
+abbrev pub toldEquality : Equality → Answer Bool
+toldEquality equality.Yes = given true
+toldEquality equality.No = given false
+toldEquality (equality.Refused r) = refused (lineOf r)
+
+-- the length of the lead-in, nothing where the loops are apart, or a refusal
+abbrev pub toldLoops : Loops → Answer (Option ℕ)
+toldLoops (loops.Joined l) = given (some l)
+toldLoops loops.Apart = given none
+toldLoops (loops.Refused r) = refused (lineOf r)
+
+-- yes or no, with the lengths of both normal forms
+pub record Checked : Type 0 where
+  pub yes : Bool
+  pub vu : ℕ
+  pub uw : ℕ
+
+abbrev checked : Bool → Lengths → Checked
+checked b l = record { yes = b; vu = l .vu; uw = l .uw }
+
+abbrev pub toldLeadIn : LeadIn → Answer Checked
+toldLeadIn (lead-in.Yes l) = given (checked true l)
+toldLeadIn (lead-in.No l) = given (checked false l)
+toldLeadIn (lead-in.Refused r) = refused (lineOf r)

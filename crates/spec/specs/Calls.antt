@@ -1,0 +1,67 @@
+-- The calls, as document 01 words them: for each the lines of the table that can refuse it, in their order, and then
+-- its answer and the final bytes of its area from what is handed in and the area as it was.
+use Prim.Native.Nat.{ℕ}
+use mathlib.Core.Bool.{Bool, true, false, _&&_}
+use mathlib.Core.List.{List, [], _∷_, _++_}
+use mathlib.Core.Option.{Option, none, some}
+use lib.ListN.{length, drop}
+use lib.Dec.{ltb, eqb}
+use Rattle.refusal.specs.Line.{Line, line, holds, firstLine, Answer, orElse}
+use Rattle.theory_words.specs.Normal.{nf}
+use Rattle.theory_conjugacy.specs.Core.{core}
+use Rattle.input_catalogue.specs.Catalogue.{commands, catalogueLines}
+use Rattle.input_plan.specs.Plan.{planLines}
+use Rattle.input_plan.specs.Letters.{letters, alphabet, normalForm}
+
+-- the normal form of the core of a plan
+unfoldable pub coreForm : List ℕ → List ℕ → List ℕ
+coreForm c v = nf (alphabet c) (core (alphabet c) (letters v))
+
+-- the longest plan
+abbrev pub planLimit : ℕ
+planLimit = 1024
+
+-- line 9: area i is smaller than `need` bytes
+abbrev pub areaLine : ℕ → ℕ → List ℕ → Option Line
+areaLine i need area = holds (ltb (length area) need) (line 9 0 i)
+
+-- an area after a call: as it was where a line refuses, else the bytes written and past them as it was
+abbrev pub areaAfter : Option Line → List ℕ → List ℕ → List ℕ
+areaAfter none bytes area = bytes ++ drop (length bytes) area
+areaAfter (some l) bytes area = area
+
+-- Normal form
+
+abbrev pub normalFormLines : List ℕ → List ℕ → List ℕ → List (Option Line)
+normalFormLines c v area =
+    catalogueLines c ++ planLines 1 planLimit (commands c) v ++ areaLine 0 (length v) area ∷ []
+
+abbrev pub normalFormAnswer : List ℕ → List ℕ → List ℕ → Answer ℕ
+normalFormAnswer c v area = orElse (firstLine (normalFormLines c v area)) (length (normalForm c v))
+
+abbrev pub normalFormArea : List ℕ → List ℕ → List ℕ → List ℕ
+normalFormArea c v area = areaAfter (firstLine (normalFormLines c v area)) (normalForm c v) area
+
+-- Core: the normal form of the core, refused and written as the normal form is
+
+abbrev pub coreAnswer : List ℕ → List ℕ → List ℕ → Answer ℕ
+coreAnswer c v area = orElse (firstLine (normalFormLines c v area)) (length (coreForm c v))
+
+abbrev pub coreArea : List ℕ → List ℕ → List ℕ → List ℕ
+coreArea c v area = areaAfter (firstLine (normalFormLines c v area)) (coreForm c v) area
+
+-- Equal
+
+abbrev pub equalLines : List ℕ → List ℕ → List ℕ → List (Option Line)
+equalLines c v w =
+    catalogueLines c ++ planLines 1 planLimit (commands c) v ++ planLines 2 planLimit (commands c) w
+
+abbrev pub sameBytes : List ℕ → List ℕ → Bool
+sameBytes [] [] = true
+sameBytes [] (b ∷ w) = false
+sameBytes (a ∷ v) [] = false
+sameBytes (a ∷ v) (b ∷ w) = eqb a b && sameBytes v w
+
+-- yes if the normal forms are the same
+abbrev pub equalAnswer : List ℕ → List ℕ → List ℕ → Answer Bool
+equalAnswer c v w = orElse (firstLine (equalLines c v w)) (sameBytes (normalForm c v) (normalForm c w))

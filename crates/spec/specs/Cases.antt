@@ -1,0 +1,150 @@
+-- Document 01's starred bench cases as one table, and the sentence that the definitions of the calls yield each row.
+use Prim.Native.Nat.{ℕ}
+use mathlib.Core.Path.{_≡_, refl}
+use mathlib.Core.Bool.{true, false}
+use mathlib.Core.List.{List, [], _∷_, _++_}
+use native.Mathlib.Decide.{ℕ-discrete}
+use lib.ListN.{length, drop}
+use Rattle.refusal.specs.Line.{Answer, given}
+use Rattle.refusal.specs.Search.{firstOf}
+use Rattle.theory_words.specs.Reduce.{without-step, without, act-step, act, reduce}
+use Rattle.theory_words.specs.Normal.{meets-step, meets, firsts-step, firsts, least-step, least, rest, lex-step, lex, nf}
+use Rattle.theory_words.specs.Group.{undo}
+use Rattle.theory_conjugacy.specs.Core as Core
+use Rattle.theory_conjugacy.specs.Core.{without-last, between, pair-step, pair, peels-step, peels, core}
+use Rattle.theory_conjugacy.specs.Part.{
+  insert-step,
+  insert,
+  chosen-step,
+  chosen,
+  relabel-step,
+  relabel,
+  merge-step,
+  merge,
+  merge-row,
+  merge-all,
+  labels,
+  label,
+  apexes,
+  share,
+  part,
+}
+use Rattle.theory_conjugacy.specs.Part as Part
+use Rattle.theory_conjugacy.specs.Filter.{filter-step, filter}
+use Rattle.theory_conjugacy.specs.Settle.{hit, raise, put, split, settled-step, settled, ring}
+use Rattle.theory_conjugacy.specs.Rotation.{agree-step, agree, search-step, search, rotation}
+use Rattle.theory_conjugacy.specs.Decision.{alike?, found?, settled-ring, part-ring, rotated?, parts-joined?}
+use Rattle.theory_conjugacy.specs.Decision.{cores-joined?, joined?}
+use Rattle.input_catalogue.specs.Catalogue.{ends, follow, stands}
+use Rattle.input_catalogue.specs.Conflict.{conflict}
+use Rattle.input_plan.specs.Plan.{isCommand, passes}
+use Rattle.input_plan.specs.Byte.{undone}
+use Rattle.input_plan.specs.Letters.{letters-step, letters, alphabet, normalForm}
+use Rattle.spec.specs.Calls.{
+  normalFormAnswer,
+  normalFormArea,
+  coreForm,
+  coreAnswer,
+  coreArea,
+  equalAnswer,
+}
+use Rattle.spec.specs.Loops.{checkAnswer, checkArea0, checkArea1}
+
+-- catalogue K: conflicts 1-2, 2-3, 3-4
+abbrev pub K : List ℕ
+K = 4 ∷ 3 ∷ 1 ∷ 2 ∷ 3 ∷ 0 ∷ 2 ∷ 0 ∷ 3 ∷ 0 ∷ 4 ∷ 0 ∷ []
+
+-- document 01's −1, −2 and −3: the undos of commands 1, 2 and 3
+abbrev undo1 : ℕ
+undo1 = 129
+
+abbrev undo2 : ℕ
+undo2 = 130
+
+abbrev undo3 : ℕ
+undo3 = 131
+
+-- a row of the table, under catalogue K
+pub data Row : Type 0 where
+  -- a plan and its normal form
+  normal : List ℕ → List ℕ → Row
+  -- a plan and its core, in normal form
+  cored : List ℕ → List ℕ → Row
+  -- two equal plans
+  equal : List ℕ → List ℕ → Row
+  -- two joined loops v and w, a lead-in u, and the normal form of v·u and of u·w
+  joined : List ℕ → List ℕ → List ℕ → List ℕ → Row
+  -- two loops that are apart
+  apart : List ℕ → List ℕ → Row
+
+-- what a call answers and leaves in its area
+abbrev pub Writes : Answer ℕ → List ℕ → List ℕ → List ℕ → Type 0
+Writes answer after area z = (answer ≡ given (length z)) × (after ≡ z ++ drop (length z) area)
+
+-- the row is what the definitions of the calls yield, in areas that are just large enough
+abbrev pub Yields : Row → Type 0
+Yields (normal v z) = Writes (normalFormAnswer K v v) (normalFormArea K v v) v z
+Yields (cored v z) = Writes (coreAnswer K v v) (coreArea K v v) v z
+Yields (equal v w) = equalAnswer K v w ≡ given true
+Yields (joined v w u z) =
+    (joined? (alphabet K) (letters v) (letters w) ≡ true)
+    × (checkAnswer K v w u (v ++ u) (u ++ w) ≡ given (record { yes = true; vu = length z; uw = length z }))
+    × (checkArea0 K v w u (v ++ u) (u ++ w) ≡ z ++ drop (length z) (v ++ u))
+    × (checkArea1 K v w u (v ++ u) (u ++ w) ≡ z ++ drop (length z) (u ++ w))
+Yields (apart v w) = joined? (alphabet K) (letters v) (letters w) ≡ false
+
+abbrev pub Every : List Row → Type 0
+Every [] = Unit {0}
+Every (r ∷ rs) = Yields r × Every rs
+
+-- cases 1 to 7 and 9 to 11, and the slip about the core that tests only the letters written first and last
+abbrev pub starred : List Row
+starred =
+    normal [] []
+    ∷ normal (1 ∷ undo1 ∷ []) []
+    ∷ normal (1 ∷ 3 ∷ undo1 ∷ []) (3 ∷ [])
+    ∷ normal (1 ∷ 2 ∷ undo1 ∷ []) (1 ∷ 2 ∷ undo1 ∷ [])
+    ∷ cored (1 ∷ 2 ∷ undo1 ∷ []) (2 ∷ [])
+    ∷ normal (3 ∷ 1 ∷ []) (1 ∷ 3 ∷ [])
+    ∷ normal (4 ∷ 2 ∷ 1 ∷ []) (2 ∷ 1 ∷ 4 ∷ [])
+    ∷ normal (2 ∷ 4 ∷ 3 ∷ 1 ∷ undo3 ∷ []) (2 ∷ 1 ∷ 4 ∷ [])
+    ∷ equal (2 ∷ 4 ∷ 3 ∷ 1 ∷ undo3 ∷ []) (4 ∷ 2 ∷ 1 ∷ [])
+    ∷ joined (1 ∷ 2 ∷ []) (2 ∷ 1 ∷ []) (1 ∷ []) (1 ∷ 2 ∷ 1 ∷ [])
+    ∷ joined (1 ∷ 2 ∷ []) (2 ∷ 1 ∷ []) (undo2 ∷ []) (1 ∷ [])
+    ∷ apart (1 ∷ []) (undo1 ∷ [])
+    ∷ apart (1 ∷ 2 ∷ 1 ∷ undo2 ∷ []) (1 ∷ 1 ∷ [])
+    ∷ cored (3 ∷ 1 ∷ 2 ∷ undo3 ∷ undo1 ∷ []) (2 ∷ [])
+    ∷ []
+
+pub starred-hold : Every starred
+unfolding firstOf without-step without act-step act reduce meets-step meets firsts-step firsts least-step least rest
+    lex-step lex nf ends follow stands conflict isCommand passes undone letters-step letters normalForm ℕ-discrete
+    Core.undone without-last between pair-step pair peels-step peels core undo coreForm insert-step insert chosen-step
+    chosen relabel-step relabel merge-step Part.commands merge merge-row merge-all labels label apexes share part hit
+    raise put split settled-step settled ring agree-step agree search-step search rotation alike? found? settled-ring
+    part-ring rotated? parts-joined? cores-joined? joined? filter-step filter
+starred-hold = (
+  (refl, refl),
+  (
+    (refl, refl),
+    (
+      (refl, refl),
+      (
+        (refl, refl),
+        (
+          (refl, refl),
+          (
+            (refl, refl),
+            (
+              (refl, refl),
+              (
+                (refl, refl),
+                (refl, ((refl, refl, refl, refl), ((refl, refl, refl, refl), (refl, (refl, ((refl, refl), tt)))))),
+              ),
+            ),
+          ),
+        ),
+      ),
+    ),
+  ),
+)

@@ -1,0 +1,41 @@
+-- What the console gets for each answer: a length, or yes (1) or no (0); for loops the lead-in's length plus 1, or 0
+-- for apart; and minus the refusal number.
+use Prim.Native.Nat.{ℕ, suc}
+use mathlib.Core.Path.{_≡_}
+use mathlib.Core.Bool.{Bool, true, false}
+use mathlib.Core.List.{List}
+use mathlib.Core.Option.{Option, none, some}
+use lib.IntN.{ℤ, pos, negℤ}
+use Rattle.refusal.specs.Line.{Answer, refused, given}
+use Rattle.spec.specs.Answers.{Checked}
+use Rattle.spec.specs.Loops.{Looped}
+
+abbrev pub code : {A : Type 0} → (A → ℕ) → Answer A → ℤ
+code f (given a) = pos (f a)
+code f (refused l) = negℤ (pos (l .number))
+
+abbrev pub yesNo : Bool → ℕ
+yesNo true = 1
+yesNo false = 0
+
+abbrev pub leadInCode : Option ℕ → ℕ
+leadInCode none = 0
+leadInCode (some l) = suc l
+
+abbrev pub lengthCode : Answer ℕ → ℤ
+lengthCode = code (λ l. l)
+
+abbrev pub equalCode : Answer Bool → ℤ
+equalCode = code yesNo
+
+abbrev pub loopsCode : Answer (Option ℕ) → ℤ
+loopsCode = code leadInCode
+
+abbrev pub checkCode : Answer Checked → ℤ
+checkCode = code (λ k. yesNo (k .yes))
+
+-- the number and the final area of the loops call, whose lead-in is left free
+pub record LoopedCode (c v w area : List ℕ) (r : ℤ) (after : List ℕ) : Type 0 where
+  pub answer : Answer (Option ℕ)
+  pub looped : Looped c v w area answer after
+  pub number : r ≡ loopsCode answer

@@ -1,0 +1,215 @@
+-- Laws of ascending lists of numbers without repetition: what is put in is there, lists with the same members are
+-- equal, and a list with fewer members is shorter.
+use Prim.Native.Nat.{ℕ, suc, _+_, _≤_, _<_}
+use mathlib.Core.Path.{_≡_, refl, sym, _∙_, ap, ap₂, subst}
+use mathlib.Core.Bool.{Bool, true, false, not, false≢true}
+use mathlib.Core.List.{List, [], _∷_, List·Memᴰ, List·Memᴰ·head, List·Memᴰ·tail, List·Memᴰ·not-nil, Memᴰ·cast}
+use mathlib.Core.Logic.{_⊎_, inl, inr}
+use lib.ListN.{length}
+use lib.Dec.{T, ltb, ltb→lt, nltb→le}
+use native.Mathlib.Omega.{arith}
+use Rattle.theory_words.specs.All.{All, all-mem, all-map}
+use Rattle.theory_conjugacy.specs.Part.{insert, insert-step, chosen, chosen-step}
+
+infix 20 _∈_
+abbrev pub _∈_ : ℕ → List ℕ → Type 0
+k ∈ ks = List·Memᴰ k ks
+
+abbrev pub Ascending : List ℕ → Type 0
+Ascending [] = Unit {0}
+Ascending (k ∷ ks) = All (λ j. k < j) ks × Ascending ks
+
+-- two numbers and the tests whether the one or the other is smaller
+pub data Placed (k j : ℕ) : Bool → Bool → Type 0 where
+  below : {t : Bool} → k < j → Placed k j true t
+  above : j < k → Placed k j false true
+  equal : k ≡ j → Placed k j false false
+
+pub placed : (k j : ℕ) → Placed k j (ltb k j) (ltb j k)
+placed k j = go (ltb k j) refl (ltb j k) refl
+  where
+    at-least : (m n : ℕ) → ltb m n ≡ false → n ≤ m
+    at-least m n e = nltb→le m n (subst (λ b. T (not b)) (sym e) tt)
+
+    go : (s : Bool) → ltb k j ≡ s → (t : Bool) → ltb j k ≡ t → Placed k j s t
+    go true e t f = below (ltb→lt k j (subst T (sym e) tt))
+    go false e true f = above (ltb→lt j k (subst T (sym f) tt))
+    go false e false f = equal (omega (arith, at-least k j e, at-least j k f))
+
+insert-in-step : {i k j : ℕ} {js ks : List ℕ} {s t : Bool} → Placed k j s t → (i ≡ k) ⊎ (i ∈ j ∷ js)
+    → (i ∈ js → i ∈ ks) → (i ≡ k → i ∈ ks) → i ∈ insert-step s t k j js ks
+unfolding insert-step
+insert-in-step (below l) (inl e) f g = List·Memᴰ·head e
+insert-in-step (below l) (inr m) f g = List·Memᴰ·tail m
+insert-in-step (above l) (inl e) f g = List·Memᴰ·tail (g e)
+insert-in-step (above l) (inr (List·Memᴰ·head e)) f g = List·Memᴰ·head e
+insert-in-step (above l) (inr (List·Memᴰ·tail m)) f g = List·Memᴰ·tail (f m)
+insert-in-step (equal l) (inl e) f g = List·Memᴰ·head (e ∙ l)
+insert-in-step (equal l) (inr m) f g = m
+
+-- what is put in or was there is there
+pub insert-in : {i k : ℕ} (ks : List ℕ) → (i ≡ k) ⊎ (i ∈ ks) → i ∈ insert k ks
+unfolding insert insert-step
+insert-in [] (inl e) = List·Memᴰ·head e
+insert-in [] (inr m) = absurd (List·Memᴰ·not-nil m)
+insert-in {k = k} (j ∷ js) d =
+    insert-in-step (placed k j) d (λ m. insert-in js (inr m)) (λ e. insert-in js (inl e))
+
+in-insert-step : {i k j : ℕ} {js ks : List ℕ} {s t : Bool} → Placed k j s t → (i ∈ ks → (i ≡ k) ⊎ (i ∈ js))
+    → i ∈ insert-step s t k j js ks → (i ≡ k) ⊎ (i ∈ j ∷ js)
+unfolding insert-step
+in-insert-step (below l) f (List·Memᴰ·head e) = inl e
+in-insert-step (below l) f (List·Memᴰ·tail m) = inr m
+in-insert-step (above l) f (List·Memᴰ·head e) = inr (List·Memᴰ·head e)
+in-insert-step {i} {k} {j} {js} (above l) f (List·Memᴰ·tail m) = go (f m)
+  where
+    go : (i ≡ k) ⊎ (i ∈ js) → (i ≡ k) ⊎ (i ∈ j ∷ js)
+    go (inl e) = inl e
+    go (inr n) = inr (List·Memᴰ·tail n)
+in-insert-step (equal l) f m = inr m
+
+-- and nothing else
+pub in-insert : {i k : ℕ} (ks : List ℕ) → i ∈ insert k ks → (i ≡ k) ⊎ (i ∈ ks)
+unfolding insert insert-step
+in-insert [] (List·Memᴰ·head e) = inl e
+in-insert [] (List·Memᴰ·tail m) = inr m
+in-insert {i} {k} (j ∷ js) m = in-insert-step (placed k j) (λ n. in-insert js n) m
+
+insert-above : (l k : ℕ) (ks : List ℕ) → l < k → All (λ j. l < j) ks → All (λ j. l < j) (insert k ks)
+unfolding insert insert-step
+insert-above l k [] h a = (h, tt)
+insert-above l k (j ∷ js) h a = go (ltb k j) (ltb j k) (insert-above l k js h (a .1))
+  where
+    go : (s t : Bool) → All (λ i. l < i) (insert k js) → All (λ i. l < i) (insert-step s t k j js (insert k js))
+    go true t b = (h, a)
+    go false true b = (a .0, b)
+    go false false b = a
+
+pub insert-ascending : (k : ℕ) (ks : List ℕ) → Ascending ks → Ascending (insert k ks)
+unfolding insert insert-step
+insert-ascending k [] a = (tt, tt)
+insert-ascending k (j ∷ js) a = go (placed k j) (insert-ascending k js (a .1))
+  where
+    go : {s t : Bool} → Placed k j s t → Ascending (insert k js) → Ascending (insert-step s t k j js (insert k js))
+    go (below l) b = ((l, all-map (λ i h. omega arith) js (a .0)), a)
+    go (above l) b = (insert-above j k js l (a .0), b)
+    go (equal e) b = a
+
+-- of an ascending list the first is the smallest
+pub head-least : {i k : ℕ} {ks : List ℕ} → Ascending (k ∷ ks) → i ∈ k ∷ ks → k ≤ i
+head-least a (List·Memᴰ·head e) = omega arith
+head-least {i} {k} {ks} a (List·Memᴰ·tail m) = let l : k < i = all-mem (λ j. k < j) ks (a .0) m in omega arith
+
+in-tail : {i k : ℕ} {ks : List ℕ} → k < i → i ∈ k ∷ ks → i ∈ ks
+in-tail h (List·Memᴰ·head e) = absurd (omega arith)
+in-tail h (List·Memᴰ·tail m) = m
+
+abbrev pub Within : List ℕ → List ℕ → Type 0
+Within is js = (k : ℕ) → k ∈ is → k ∈ js
+
+within-tails : {k j : ℕ} {ks js : List ℕ} → Ascending (k ∷ ks) → j ≤ k → Within (k ∷ ks) (j ∷ js) → Within ks js
+within-tails {k} {j} {ks} a h f i m =
+    let l : k < i = all-mem (λ n. k < n) ks (a .0) m in
+    in-tail (omega arith) (f i (List·Memᴰ·tail m))
+
+pub ascending-equal : (is js : List ℕ) → Ascending is → Ascending js → Within is js → Within js is → is ≡ js
+ascending-equal [] [] a b f g = refl
+ascending-equal [] (j ∷ js) a b f g = absurd (List·Memᴰ·not-nil (g j (List·Memᴰ·head refl)))
+ascending-equal (i ∷ is) [] a b f g = absurd (List·Memᴰ·not-nil (f i (List·Memᴰ·head refl)))
+ascending-equal (i ∷ is) (j ∷ js) a b f g =
+    let l : j ≤ i = head-least b (f i (List·Memᴰ·head refl)) in
+    let m : i ≤ j = head-least a (g j (List·Memᴰ·head refl)) in
+    let e : i ≡ j = omega arith in
+    ap₂ (λ (k : ℕ) (ks : List ℕ). k ∷ ks) e
+    (ascending-equal is js (a .1) (b .1) (within-tails a l f) (within-tails b m g))
+
+pub within-length : (is js : List ℕ) → Ascending is → Ascending js → Within is js → length is ≤ length js
+within-length [] js a b f = omega arith
+within-length (i ∷ is) [] a b f = absurd (List·Memᴰ·not-nil (f i (List·Memᴰ·head refl)))
+within-length (i ∷ is) (j ∷ js) a b f = go (placed i j)
+    (λ l. within-length is js (a .1) (b .1) (within-tails a l f))
+    (λ l. within-length (i ∷ is) js a (b .1) (λ k m. in-tail (later k l m) (f k m)))
+  where
+    later : (k : ℕ) → j < i → k ∈ i ∷ is → j < k
+    later k l m = let h : i ≤ k = head-least a m in omega arith
+
+    go : {s t : Bool} → Placed i j s t → (j ≤ i → length is ≤ length js) → (j < i → suc (length is) ≤ length js)
+        → suc (length is) ≤ suc (length js)
+    go (below l) p q = let h : j ≤ i = head-least b (f i (List·Memᴰ·head refl)) in absurd (omega arith)
+    go (above l) p q = let h = q l in omega arith
+    go (equal e) p q = let h = p (omega arith) in omega arith
+
+-- what was not there makes the list longer
+pub insert-length : (k : ℕ) (ks : List ℕ) → ¬ (k ∈ ks) → length (insert k ks) ≡ suc (length ks)
+unfolding insert insert-step
+insert-length k [] n = refl
+insert-length k (j ∷ js) n = go (placed k j) (insert-length k js (λ m. n (List·Memᴰ·tail m)))
+  where
+    go : {s t : Bool} → Placed k j s t → length (insert k js) ≡ suc (length js)
+        → length (insert-step s t k j js (insert k js)) ≡ suc (suc (length js))
+    go (below l) h = refl
+    go (above l) h = ap suc h
+    go (equal e) h = absurd (n (List·Memᴰ·head e))
+
+pub within-shorter : (is js : List ℕ) → Ascending is → Ascending js → Within is js → (k : ℕ) → k ∈ js → ¬ (k ∈ is)
+    → length is < length js
+within-shorter is js a b f k m n =
+    let g : Within (insert k is) js = (λ i o. go i (in-insert is o)) in
+    omega (arith, insert-length k is n, within-length (insert k is) js (insert-ascending k is a) b g)
+  where
+    go : (i : ℕ) → (i ≡ k) ⊎ (i ∈ is) → i ∈ js
+    go i (inl e) = Memᴰ·cast e m
+    go i (inr o) = f i o
+
+-- an ascending list of numbers from low on and below high
+pub ascending-length : (low high : ℕ) (ks : List ℕ) → Ascending ks → low ≤ high → All (λ k. low ≤ k) ks
+    → All (λ k. k < high) ks → low + length ks ≤ high
+ascending-length low high [] a h l u = omega arith
+ascending-length low high (k ∷ ks) a h l u =
+    let i = ascending-length (suc k) high ks (a .1) (u .0) (a .0) (u .1) in
+    let j : low ≤ k = l .0 in
+    omega arith
+
+-- choosing by a test
+pub chosen-in : (f : ℕ → Bool) {k : ℕ} (ks : List ℕ) → k ∈ ks → f k ≡ true → k ∈ chosen f ks
+unfolding chosen chosen-step
+chosen-in f {k} (j ∷ js) (List·Memᴰ·head e) t = go (f j) (ap f (sym e) ∙ t)
+  where
+    go : (s : Bool) → s ≡ true → k ∈ chosen-step s j (chosen f js)
+    go true h = List·Memᴰ·head e
+    go false h = absurd (false≢true h)
+chosen-in f {k} (j ∷ js) (List·Memᴰ·tail m) t = go (f j) (chosen-in f js m t)
+  where
+    go : (s : Bool) → k ∈ chosen f js → k ∈ chosen-step s j (chosen f js)
+    go true n = List·Memᴰ·tail n
+    go false n = n
+
+pub in-chosen : (f : ℕ → Bool) {k : ℕ} (ks : List ℕ) → k ∈ chosen f ks → (k ∈ ks) × (f k ≡ true)
+unfolding chosen chosen-step
+in-chosen f [] m = absurd (List·Memᴰ·not-nil m)
+in-chosen f {k} (j ∷ js) m = go (f j) refl m (λ n. in-chosen f js n)
+  where
+    go : (s : Bool) → f j ≡ s → k ∈ chosen-step s j (chosen f js) → (k ∈ chosen f js → (k ∈ js) × (f k ≡ true))
+        → (k ∈ j ∷ js) × (f k ≡ true)
+    go true e (List·Memᴰ·head h) g = (List·Memᴰ·head h, ap f h ∙ e)
+    go true e (List·Memᴰ·tail n) g = let (o, p) = g n in (List·Memᴰ·tail o, p)
+    go false e n g = let (o, p) = g n in (List·Memᴰ·tail o, p)
+
+chosen-above : (f : ℕ → Bool) (l : ℕ) (ks : List ℕ) → All (λ i. l < i) ks → All (λ i. l < i) (chosen f ks)
+unfolding chosen chosen-step
+chosen-above f l [] b = tt
+chosen-above f l (k ∷ ks) b = go (f k) (chosen-above f l ks (b .1))
+  where
+    go : (s : Bool) → All (λ i. l < i) (chosen f ks) → All (λ i. l < i) (chosen-step s k (chosen f ks))
+    go true c = (b .0, c)
+    go false c = c
+
+pub chosen-ascending : (f : ℕ → Bool) (ks : List ℕ) → Ascending ks → Ascending (chosen f ks)
+unfolding chosen chosen-step
+chosen-ascending f [] a = tt
+chosen-ascending f (j ∷ js) a = go (f j) (chosen-ascending f js (a .1)) (chosen-above f j js (a .0))
+  where
+    go : (s : Bool) → Ascending (chosen f js) → All (λ i. j < i) (chosen f js)
+        → Ascending (chosen-step s j (chosen f js))
+    go true b c = (c, b)
+    go false b c = b

@@ -1,0 +1,191 @@
+-- Laws of splitting and settling: the split is one of the word up to swaps, its second half is a pyramid, the functions
+-- compute the relations, and a settled word is reached by cyclings.
+use Prim.Native.Nat.{ℕ, zero, suc, _≤_}
+use native.Mathlib.Omega.{arith}
+use mathlib.Core.Path.{_≡_, refl, sym, _∙_, ap, subst}
+use mathlib.Core.Bool.{Bool, true, false, true≢false, _||_}
+use mathlib.Core.Logic.{_⊎_, inl, inr}
+use mathlib.Core.List.{List, [], _∷_, _++_}
+use lib.Dec.{eqb}
+use borrow.Author.Tests.{eqb-true, eqb-false}
+use Rattle.theory_words.specs.BoolLaws.{or-either, or-neither}
+use Rattle.theory_words.specs.Alphabet.{Alphabet, Word}
+use Rattle.theory_words.specs.All.{All, all-map}
+use Rattle.theory_words.specs.Trace as Trace
+use Rattle.theory_words.specs.Trace.{here, there, First, done, cons, next}
+use Rattle.theory_words.specs.TraceLaws.{dep-sym, ~-sym, first-along}
+use Rattle.theory_words.specs.TraceLaws.{Apart, apart-pass}
+use Rattle.theory_words.specs.Normal.{meets, meets-step}
+use Rattle.theory_conjugacy.specs.Turn.{Turns, same, also}
+use Rattle.theory_conjugacy.specs.TurnLaws.{turns-refl, turns-rotate}
+use Rattle.theory_conjugacy.specs.Settle.{hit, raise, put, split, settled, settled-step, cycled, cycled-step}
+use Rattle.theory_conjugacy.specs.Settle.{Split, stop, up, low, Rounded, quiet, round}
+
+-- three tests, the first two in either order
+pub or-swap : (a b c : Bool) → (a || (b || c)) ≡ (b || (a || c))
+or-swap true true c = refl
+or-swap true false c = refl
+or-swap false true c = refl
+or-swap false false c = refl
+
+module _ (Γ : Alphabet) (m : ℕ) where
+  open Alphabet Γ using (Letter, cmd, conf)
+
+  infix 20 _~_
+  abbrev _~_ : Word Γ → Word Γ → Type 0
+  _~_ = Trace._~_ Γ
+
+  -- every letter that can come first is an apex letter
+  abbrev pub Pyramid : Word Γ → Type 0
+  Pyramid w = (d : Letter) → First Γ d w → cmd d ≡ m
+
+  pub pyramid-along : {v w : Word Γ} → v ~ w → Pyramid v → Pyramid w
+  pyramid-along e h d f = h d (first-along Γ (~-sym Γ e) f)
+
+  -- the test
+
+  meets-or : (a b : Bool) → meets-step Γ a b ≡ (a || b)
+  unfolding meets-step
+  meets-or true b = refl
+  meets-or false b = refl
+
+  pub hit-cons : (k : ℕ) (R : List ℕ) (b : Letter) → hit Γ m (k ∷ R) b ≡ (conf (cmd b) k || hit Γ m R b)
+  unfolding hit meets
+  hit-cons k R b =
+      ap (λ (t : Bool). eqb (cmd b) m || t) (meets-or (conf (cmd b) k) (meets Γ (cmd b) R))
+      ∙ or-swap (eqb (cmd b) m) (conf (cmd b) k) (meets Γ (cmd b) R)
+
+  -- a command that b does not conflict with makes no difference
+  pub hit-past : (k : ℕ) (R : List ℕ) (b : Letter) → conf (cmd b) k ≡ false → hit Γ m (k ∷ R) b ≡ hit Γ m R b
+  hit-past k R b d = hit-cons k R b ∙ ap (λ (t : Bool). t || hit Γ m R b) d
+
+  pub hit-less : (k : ℕ) (R : List ℕ) (b : Letter) → hit Γ m (k ∷ R) b ≡ false
+      → (conf (cmd b) k ≡ false) × (hit Γ m R b ≡ false)
+  hit-less k R b h = or-neither (conf (cmd b) k) (hit Γ m R b) (sym (hit-cons k R b) ∙ h)
+
+  pub hit-apex : (R : List ℕ) (b : Letter) → hit Γ m R b ≡ false → ¬ (cmd b ≡ m)
+  unfolding hit
+  hit-apex R b h e = eqb-false (cmd b) m (or-neither (eqb (cmd b) m) (meets Γ (cmd b) R) h .0) e
+
+  pub hit-nil : (b : Letter) → hit Γ m [] b ≡ true → cmd b ≡ m
+  unfolding hit meets
+  hit-nil b h = go (or-either (eqb (cmd b) m) false h)
+    where
+      go : (eqb (cmd b) m ≡ true) ⊎ (false ≡ true) → cmd b ≡ m
+      go (inl e) = eqb-true (cmd b) m e
+      go (inr e) = absurd (true≢false (sym e))
+
+  -- the halves of a split
+
+  -- no letter of the first half is hit
+  pub split-low : {R : List ℕ} {w p q : Word Γ} → Split Γ m R w p q → All (λ a. hit Γ m R a ≡ false) p
+  split-low stop = tt
+  split-low {R} {p = p} (up {b = b} h s) = all-map (λ a k. hit-less (cmd b) R a k .1) p (split-low s)
+  split-low (low h s) = (h, split-low s)
+
+  -- it is free of the apex
+  pub split-free : {R : List ℕ} {w p q : Word Γ} → Split Γ m R w p q → All (λ a. ¬ (cmd a ≡ m)) p
+  split-free {R} {p = p} s = all-map (hit-apex R) p (split-low s)
+
+  -- a raised command is independent of the first half
+  pub split-apart : (b : Letter) {R : List ℕ} {w p q : Word Γ} → Split Γ m (cmd b ∷ R) w p q → Apart Γ b p
+  split-apart b {R} {p = p} s = go p (split-low s)
+    where
+      go : (x : Word Γ) → All (λ a. hit Γ m (cmd b ∷ R) a ≡ false) x → Apart Γ b x
+      go [] h = tt
+      go (a ∷ x) h = (dep-sym Γ {a = a} {b = b} (hit-less (cmd b) R a (h .0) .0), go x (h .1))
+
+  pub split-~ : {R : List ℕ} {w p q : Word Γ} → Split Γ m R w p q → w ~ (p ++ q)
+  split-~ stop = done
+  split-~ {p = p} (up {b = b} {q = q} h s) = next (cons (split-~ s)) (apart-pass Γ b p (split-apart b s) q)
+  split-~ (low h s) = cons (split-~ s)
+
+  -- a letter that can come first in the second half is hit
+  pub split-high : {R : List ℕ} {w p q : Word Γ} {d : Letter} → Split Γ m R w p q → First Γ d q → hit Γ m R d ≡ true
+  split-high stop (r, o) = elim o [ ]
+  split-high (up h s) (r, here) = h
+  split-high {R} {d = d} (up {b = b} h s) (r, there {r = t} k o) = sym (hit-past (cmd b) R d k) ∙ split-high s (t, o)
+  split-high (low h s) f = split-high s f
+
+  pub split-pyramid : {w p q : Word Γ} → Split Γ m [] w p q → Pyramid q
+  split-pyramid s d f = hit-nil d (split-high s f)
+
+  -- what a round leaves to the next
+
+  -- the second half splits as itself
+  pub split-upper : {R : List ℕ} {w p q : Word Γ} → Split Γ m R w p q → Split Γ m R q [] q
+  split-upper stop = stop
+  split-upper (up h s) = up h (split-upper s)
+  split-upper (low h s) = split-upper s
+
+  -- R and the commands of u
+  abbrev raised : Word Γ → List ℕ → List ℕ
+  raised [] R = R
+  raised (b ∷ u) R = raised u (cmd b ∷ R)
+
+  -- behind a word that is raised whole
+  split-behind : {R : List ℕ} {u q x y : Word Γ} (v : Word Γ) → Split Γ m R u [] q → Split Γ m R (u ++ v) x y
+      → (z : Word Γ) × Split Γ m (raised u R) v x z
+  split-behind {y = y} v stop t = (y, t)
+  split-behind v (up h s) (up k t) = split-behind v s t
+  split-behind v (up h s) (low k t) = absurd (true≢false (sym h ∙ k))
+
+  -- the split goes along swaps
+
+  -- the function computes the relation, which has one result
+
+  pub split-splits : (R : List ℕ) (w : Word Γ) → Split Γ m R w (split Γ m R w .0) (split Γ m R w .1)
+  unfolding split put raise
+  split-splits R [] = stop
+  split-splits R (b ∷ w) = go (hit Γ m R b) refl (split-splits (raise Γ m (hit Γ m R b) (cmd b) R) w)
+    where
+      go : (t : Bool) → hit Γ m R b ≡ t
+          → (let s = split Γ m (raise Γ m t (cmd b) R) w in Split Γ m (raise Γ m t (cmd b) R) w (s .0) (s .1))
+          → (let s = put Γ m t b (split Γ m (raise Γ m t (cmd b) R) w) in Split Γ m R (b ∷ w) (s .0) (s .1))
+      go true h s = up h s
+      go false h s = low h s
+
+  pub split-unique : {R : List ℕ} {w p q : Word Γ} → Split Γ m R w p q
+      → (split Γ m R w .0 ≡ p) × (split Γ m R w .1 ≡ q)
+  unfolding split put raise
+  split-unique stop = (refl, refl)
+  split-unique (up {b = b} h s) = let (e, f) = split-unique s in (rw h e, rw h (ap (λ (x : Word Γ). b ∷ x) f))
+  split-unique (low {b = b} h s) = let (e, f) = split-unique s in (rw h (ap (λ (x : Word Γ). b ∷ x) e), rw h f)
+
+  -- rounds
+
+  -- what the functions compute, given rounds enough
+  pub rounded-settled : {n : ℕ} {w g r : Word Γ} → Rounded Γ m n w g r → (k : ℕ) → n ≤ k
+      → (settled Γ m k w ≡ r) × (cycled Γ m k w ≡ g)
+  unfolding settled settled-step cycled cycled-step
+  rounded-settled (quiet s) zero h = (refl, refl)
+  rounded-settled (quiet s) (suc k) h = let (e, f) = split-unique s in (rw e refl, rw e refl)
+  rounded-settled (round s o) zero h = absurd (omega arith)
+  rounded-settled (round {b = b} {p = p} s o) (suc k) h =
+      let (e, f) = split-unique s in
+      let (x, y) = rounded-settled o k (omega arith) in
+      (rw (e, f) x, rw (e, f) (ap (λ (z : Word Γ). b ∷ p ++ z) y))
+
+  -- and if they leave nothing to cycle, the rounds were enough
+  pub settled-rounded : (k : ℕ) (w : Word Γ) → split Γ m [] (settled Γ m k w) .0 ≡ []
+      → (n : ℕ) × (n ≤ k) × Rounded Γ m n w (cycled Γ m k w) (settled Γ m k w)
+  unfolding settled settled-step cycled cycled-step
+  settled-rounded zero w e =
+      let s = split Γ m [] w in
+      (zero, omega arith, quiet (subst (λ (p : Word Γ). Split Γ m [] w p (s .1)) e (split-splits [] w)))
+  settled-rounded (suc k) w e =
+      let s = split Γ m [] w in
+      go (s .0) (s .1) (split-splits [] w) e (settled-rounded k (s .1 ++ s .0))
+    where
+      go : (p q : Word Γ) → Split Γ m [] w p q → split Γ m [] (settled-step Γ m w p q (settled Γ m k)) .0 ≡ []
+          → (split Γ m [] (settled Γ m k (q ++ p)) .0 ≡ []
+          → (n : ℕ) × (n ≤ k) × Rounded Γ m n (q ++ p) (cycled Γ m k (q ++ p)) (settled Γ m k (q ++ p)))
+          → (n : ℕ) × (n ≤ suc k) × Rounded Γ m n w (cycled-step Γ m p q (cycled Γ m k))
+          (settled-step Γ m w p q (settled Γ m k))
+      go [] q s e ih = (zero, omega arith, quiet s)
+      go (b ∷ p) q s e ih = let (n, h, o) = ih e in (suc n, omega arith, round s o)
+
+  pub rounded-turns : {n : ℕ} {w g r : Word Γ} → Rounded Γ m n w g r → Turns Γ w r
+  rounded-turns {w = w} (quiet s) = turns-refl Γ w
+  rounded-turns (round {b = b} {p = p} {q = q} s o) =
+      also (same (split-~ s)) (also (turns-rotate Γ (b ∷ p) q) (rounded-turns o))
