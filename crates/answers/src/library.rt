@@ -5,15 +5,15 @@ use cases_solver::Word;
 use cases_solver::at;
 use cases_solver::blank;
 use cases_solver::with;
-use refusal::Refusal;
 use spec::Equality;
 use spec::LeadIn;
 use spec::Loops;
+use spec::Refusal;
 use spec::Written;
 
 fn refused(refusal: Refusal) -> Word {
     let reason = refusal.reason;
-    faults::refusal(refusal::number(reason), refusal.plan, refusal.place)
+    faults::refusal(call_codes::number(reason), refusal.plan, refusal.place)
 }
 
 // The first letters of an area, behind their number.

@@ -7,10 +7,11 @@ use mathlib.Core.List.{List}
 use Rattle.theory_words.specs.Stack.{mark}
 use Rattle.theory_words.specs.StackLaws.{Marked, marked}
 use Rattle.theory_words.specs.StackLaws as Stack
-use Rattle.input_catalogue.specs.Conflict.{conflict, bit}
-use Rattle.input_catalogue.specs.ConflictLaws.{conflict-refl, conflict-sym}
-use Rattle.input_plan.specs.Byte.{commandOf}
-use Rattle.input_plan.specs.Letters.{alphabet}
+use Rattle.spec.specs.Conflict.{conflict}
+use Rattle.input_conflicts.specs.Conflicts.{bit}
+use Rattle.spec.specs.AlphabetLaws.{conflict-refl, conflict-sym}
+use Rattle.spec.specs.Byte.{commandOf}
+use Rattle.spec.specs.Letters.{alphabet}
 use Rattle.array_counts.specs.BeadsLaws.{Meets, aside, own, other}
 
 -- the line of command k + 1 tells how many

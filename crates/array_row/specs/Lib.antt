@@ -2,3 +2,5 @@ pub mod CompareLaws
 pub mod Row
 pub mod RowLaws
 pub mod UndoLaws
+pub mod Area
+pub mod AreaLaws

@@ -3,7 +3,7 @@ use Prim.Native.Nat.{ℕ, _+_}
 use mathlib.Core.Path.{_≡_}
 use mathlib.Core.List.{List, _++_}
 use lib.ListN.{length, take, drop}
-use Rattle.input_plan.specs.Letters.{undoneBefore}
+use Rattle.spec.specs.Letters.{undoneBefore}
 
 -- behind the first `at` bytes now stands the word, up to `end`, and past it the row is as it was
 pub record Appended (before : List ℕ) (at : ℕ) (word after : List ℕ) (end : ℕ) : Type 0 where

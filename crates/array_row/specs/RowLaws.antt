@@ -6,8 +6,8 @@ use mathlib.Core.Path.{_≡_, refl, sym, _∙_, ap, subst}
 use mathlib.Core.List.{List, [], _∷_, _++_, append-assoc, append-nil}
 use lib.ListN.{length, getD, take, drop, set, length-append, length-drop, take-append-drop}
 use lib.Seq.{length-take-le, take-suc, drop-cons, set-at, take-at, take-all, drop-length, append-snoc}
-use Rattle.input_plan.specs.Byte.{undone}
-use Rattle.input_plan.specs.Letters.{undoneBefore}
+use Rattle.spec.specs.Byte.{undone}
+use Rattle.spec.specs.Letters.{undoneBefore}
 use Rattle.array_row.specs.Row.{Appended}
 
 pub appended-start : (row : List ℕ) (at : ℕ) → Appended row at [] row at

@@ -5,8 +5,8 @@ use mathlib.Core.Path.{_≡_, refl, sym, _∙_, ap}
 use mathlib.Core.List.{List, [], _∷_, _++_, append-assoc}
 use lib.ListN.{length, getD, take, drop, set, length-append, length-drop, take-append-drop}
 use lib.Seq.{length-take-le, set-at, getD-at, take-at, drop-at, take-take, append-snoc}
-use Rattle.input_plan.specs.Byte.{undone}
-use Rattle.input_plan.specs.Letters.{undoneBefore}
+use Rattle.spec.specs.Byte.{undone}
+use Rattle.spec.specs.Letters.{undoneBefore}
 use Rattle.array_row.specs.Row.{Undone}
 use Rattle.array_row.specs.RowLaws.{undone-onto, undone-length}
 

@@ -8,7 +8,7 @@ ghost use mathlib.Core.Bool.{true};
 ghost use mathlib.Core.Logic.{_↔_};
 ghost use lib.ListN.{length};
 ghost use Rattle.array_row.specs.Row.{Appended, Undone};
-ghost use Rattle.input_plan.specs.Letters.{undoneBefore};
+ghost use Rattle.spec.specs.Letters.{undoneBefore};
 ghost use mathlib.Core.List.{[]};
 
 // Copies the word behind the first `at` bytes of the row and gives the new end.

@@ -1,18 +1,38 @@
-// The numbers that a C caller gets for the answers of the calls. spec/specs/Codes.antt defines them.
+// The numbers that the table gives the reasons of refusals, and those that a C caller gets for the answers of the calls.
+// spec/specs/Table.antt and spec/specs/Codes.antt define them.
 
 ghost use Prim.Native.Nat.{ℕ, _+_, _<_, _^_};
 ghost use mathlib.Core.Path.{_≡_};
 ghost use lib.IntN.{pos, negℤ};
-ghost use Rattle.refusal.specs.Line.{numberOf};
+ghost use Rattle.spec.specs.Table.{numberOf};
 ghost use Rattle.spec.specs.declared.Written.the-variants.{Length};
 ghost use Rattle.spec.specs.declared.Loops.the-variants.{Joined};
 ghost use Rattle.spec.specs.Answers.{toldWritten, toldEquality, toldLoops, toldLeadIn};
 ghost use Rattle.spec.specs.Codes.{lengthCode, equalCode, loopsCode, checkCode};
-use refusal::Reason;
 use spec::Equality;
 use spec::LeadIn;
 use spec::Loops;
+use spec::Reason;
 use spec::Written;
+
+// The number that document 01's table gives a reason.
+pub fn number(reason: Reason) -> u8
+    ensures { λ r. ⌜ r ≡ numberOf reason ⌝ }
+{
+    match reason {
+        Reason::CatalogueSize => 1,
+        Reason::CommandCount => 2,
+        Reason::Index => 3,
+        Reason::RecordCommand => 4,
+        Reason::EndlessChain => 5,
+        Reason::OwnChain => 6,
+        Reason::PlanSize => 7,
+        Reason::PlanByte => 8,
+        Reason::AreaSize => 9,
+        Reason::Unsettled => 10,
+        Reason::Framing => 11,
+    }
+}
 
 // Minus the number of a reason.
 fn refusal_code(reason: Reason) -> i64

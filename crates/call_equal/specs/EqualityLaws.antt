@@ -4,15 +4,15 @@ use mathlib.Core.Path.{_≡_, sym, _∙_, ap}
 use mathlib.Core.Bool.{Bool, true}
 use mathlib.Core.List.{List}
 use mathlib.Core.Logic.{_↔_}
-use Rattle.refusal.specs.Line.{Answer, given}
-use Rattle.refusal.specs.declared.Refusal.{Refusal}
-use Rattle.refusal.specs.declared.Checked.{Checked}
-use Rattle.refusal.specs.declared.Checked.the-variants.{Refused, Passed}
-use Rattle.input_plan.specs.Letters.{normalForm}
+use Rattle.spec.specs.Table.{Answer, given}
+use Rattle.spec.specs.declared.Refusal.{Refusal}
+use Rattle.input_catalogue.specs.declared.Checked.{Checked}
+use Rattle.input_catalogue.specs.declared.Checked.the-variants.{Refused, Passed}
+use Rattle.spec.specs.Letters.{normalForm}
 use Rattle.input_checks.specs.Entry.{TwoPlans, SameRefusal}
 use Rattle.input_checks.specs.EntryLaws.{entered-none, entered-some}
 use Rattle.spec.specs.Calls.{equalAnswer}
-use Rattle.spec.specs.CallLaws.{compared}
+use Rattle.spec_laws.specs.CallLaws.{compared}
 
 module _ {c v w : List ℕ} {rows : List (List ℕ)} {r : Checked} (d : TwoPlans c v w rows r) where
   pub equal-refused : {t : Answer Bool} {f : Refusal} → r ≡ Refused f → SameRefusal r t → t ≡ equalAnswer c v w

@@ -4,7 +4,7 @@ ghost use mathlib.Core.Path.{_≡_};
 ghost use Rattle.spec.specs.Answers.{toldEquality};
 ghost use Rattle.spec.specs.Calls.{equalAnswer};
 ghost use Rattle.input_checks.specs.Entry.{SameRefusal};
-use refusal::Checked;
+use input_catalogue::Checked;
 use spec::Equality;
 
 // A refused check, passed on untouched as the answer of a comparison.
@@ -27,7 +27,7 @@ pub fn equal(catalogue: &[u8], v: &[u8], w: &[u8]) -> Equality
     let Checked::Passed(_) = checked else {
         return not_compared(checked);
     };
-    if engine::equal(v, w, &conflicts) {
+    if piling_equal::equal(v, w, &conflicts) {
         return Equality::Yes;
     }
     Equality::No

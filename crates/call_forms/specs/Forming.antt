@@ -4,7 +4,7 @@ use mathlib.Core.Path.{_≡_}
 use mathlib.Core.List.{List}
 use lib.ListN.{length}
 use Rattle.spec.specs.Calls.{normalFormLines, areaAfter}
-use Rattle.refusal.specs.Line.{Answer, firstLine, orElse}
+use Rattle.spec.specs.Table.{Answer, firstLine, orElse}
 
 -- the answer t and the area afterwards where the form f of a plan is to be written
 abbrev pub WrittenForm : (List ℕ → List ℕ → List ℕ) → List ℕ → List ℕ → List ℕ → Answer ℕ → List ℕ → Type 0

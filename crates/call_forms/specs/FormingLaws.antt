@@ -5,13 +5,13 @@ use mathlib.Core.List.{List, [], _∷_}
 use mathlib.Core.Option.{Option, none, some}
 use lib.ListN.{length}
 use borrow.Author.Tests.{lt-ltb, le-ltb}
-use Rattle.refusal.specs.Line.{Line, line, Answer, refused, given, firstLine}
-use Rattle.refusal.specs.LineLaws.{first-early, first-late}
-use Rattle.refusal.specs.declared.Refusal.{Refusal}
-use Rattle.refusal.specs.declared.Checked.{Checked}
-use Rattle.refusal.specs.declared.Checked.the-variants.{Refused, Passed}
-use Rattle.input_plan.specs.Area.{StartsWith}
-use Rattle.input_plan.specs.AreaLaws.{starts-area}
+use Rattle.spec.specs.Table.{Line, line, Answer, refused, given, firstLine}
+use Rattle.spec_laws.specs.TableLaws.{first-early, first-late}
+use Rattle.spec.specs.declared.Refusal.{Refusal}
+use Rattle.input_catalogue.specs.declared.Checked.{Checked}
+use Rattle.input_catalogue.specs.declared.Checked.the-variants.{Refused, Passed}
+use Rattle.array_row.specs.Area.{StartsWith}
+use Rattle.array_row.specs.AreaLaws.{starts-area}
 use Rattle.input_checks.specs.Entry.{OnePlan, oneLines, SameRefusal}
 use Rattle.input_checks.specs.EntryLaws.{entered-none, entered-some}
 use Rattle.spec.specs.Calls.{areaLine, normalFormLines}

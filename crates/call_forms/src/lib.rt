@@ -7,7 +7,7 @@ ghost use Rattle.spec.specs.Calls.{normalFormAnswer, normalFormArea, coreAnswer
 ghost use Rattle.input_checks.specs.Entry.{SameRefusal};
 ghost use Rattle.piling_form.specs.Coring.{form};
 ghost use Rattle.call_forms.specs.Forming.{WrittenForm};
-use refusal::Checked;
+use input_catalogue::Checked;
 use spec::Written;
 
 // A refused check, passed on untouched as the answer of a call that writes.

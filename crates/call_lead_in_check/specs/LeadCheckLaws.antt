@@ -5,20 +5,20 @@ use mathlib.Core.List.{List, [], _∷_, _++_}
 use mathlib.Core.Option.{Option, none, some}
 use lib.ListN.{length}
 use borrow.Author.Tests.{lt-ltb, le-ltb}
-use Rattle.refusal.specs.Line.{Line, line, Answer, refused, given, firstLine}
-use Rattle.refusal.specs.LineLaws.{first-early, first-late}
-use Rattle.refusal.specs.declared.Refusal.{Refusal}
-use Rattle.refusal.specs.declared.Checked.{Checked}
-use Rattle.refusal.specs.declared.Checked.the-variants.{Refused, Passed}
-use Rattle.input_plan.specs.AreaLaws.{starts-area}
-use Rattle.input_plan.specs.Letters.{normalForm}
-use Rattle.checking.specs.declared.Both.{Both}
-use Rattle.checking.specs.Checking.{Checkable, CheckedIn}
+use Rattle.spec.specs.Table.{Line, line, Answer, refused, given, firstLine}
+use Rattle.spec_laws.specs.TableLaws.{first-early, first-late}
+use Rattle.spec.specs.declared.Refusal.{Refusal}
+use Rattle.input_catalogue.specs.declared.Checked.{Checked}
+use Rattle.input_catalogue.specs.declared.Checked.the-variants.{Refused, Passed}
+use Rattle.array_row.specs.AreaLaws.{starts-area}
+use Rattle.spec.specs.Letters.{normalForm}
+use Rattle.call_lead_in_check.specs.declared.Both.{Both}
+use Rattle.call_lead_in_check.specs.Checking.{Checkable, CheckedIn}
 use Rattle.input_checks.specs.Entry.{ThreePlans, threeLines, SameRefusal}
 use Rattle.input_checks.specs.EntryLaws.{entered-none, entered-some}
 use Rattle.spec.specs.Answers as Answers
 use Rattle.spec.specs.Calls.{areaLine}
-use Rattle.spec.specs.CallLaws.{compared}
+use Rattle.spec_laws.specs.CallLaws.{compared}
 use Rattle.spec.specs.Loops.{checkLines, checkAnswer, checkArea0, checkArea1}
 
 -- the answer t and both areas afterwards

@@ -1,1 +1,3 @@
+pub mod Checking
+pub mod CheckingLaws
 pub mod LeadCheckLaws

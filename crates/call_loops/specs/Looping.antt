@@ -1,7 +1,7 @@
 -- The verdict on two loops as the answer of the loops call.
 use Prim.Native.Nat.{ℕ}
 use mathlib.Core.Option.{Option, none, some}
-use Rattle.refusal.specs.Line.{Answer, refused, given, line}
+use Rattle.spec.specs.Table.{Answer, refused, given, line}
 use Rattle.conjugacy_of_parts.specs.declared.Outcome.{Outcome}
 use Rattle.conjugacy_of_parts.specs.declared.Outcome.the-variants.{Joined, Apart, Unsettled}
 

@@ -7,15 +7,15 @@ use native.Mathlib.Omega.{arith}
 use native.Mathlib.Nat.{mul-le-mul-left}
 use lib.ListN.{length}
 use borrow.Author.Tests.{lt-ltb, le-ltb}
-use Rattle.refusal.specs.Line.{Line, line, Answer, refused, firstLine}
-use Rattle.refusal.specs.LineLaws.{first-early, first-late}
-use Rattle.refusal.specs.declared.Refusal.{Refusal}
-use Rattle.refusal.specs.declared.Checked.{Checked}
-use Rattle.refusal.specs.declared.Checked.the-variants.{Refused, Passed}
+use Rattle.spec.specs.Table.{Line, line, Answer, refused, firstLine}
+use Rattle.spec_laws.specs.TableLaws.{first-early, first-late}
+use Rattle.spec.specs.declared.Refusal.{Refusal}
+use Rattle.input_catalogue.specs.declared.Checked.{Checked}
+use Rattle.input_catalogue.specs.declared.Checked.the-variants.{Refused, Passed}
 use Rattle.conjugacy_of_parts.specs.declared.Outcome.{Outcome}
 use Rattle.conjugacy_of_plans.specs.Join as Join
 use Rattle.conjugacy_of_plans.specs.Join.{Plans, Told}
-use Rattle.joining.specs.UnsettledLaws.{never-unsettled}
+use Rattle.conjugacy_of_plans.specs.UnsettledLaws.{never-unsettled}
 use Rattle.input_checks.specs.Entry.{TwoPlans, twoLines, SameRefusal}
 use Rattle.input_checks.specs.EntryLaws.{entered-none, entered-some, entered-commands}
 use Rattle.spec.specs.Calls.{areaLine}

@@ -7,10 +7,10 @@ ghost use Rattle.spec.specs.Loops.{Looped};
 ghost use Rattle.input_checks.specs.Entry.{SameRefusal};
 ghost use Rattle.call_loops.specs.Looping.{toldOutcome};
 use conjugacy_of_parts::Outcome;
-use refusal::Checked;
-use refusal::Reason;
-use refusal::Refusal;
+use input_catalogue::Checked;
 use spec::Loops;
+use spec::Reason;
+use spec::Refusal;
 
 // A refused check, passed on untouched as the answer of the loops call.
 fn not_joined(checked: Checked) -> Loops
@@ -50,5 +50,5 @@ pub fn loops(catalogue: &[u8], v: &[u8], w: &[u8], area: &mut [u8]) -> Loops
     if area.len() < commands * (v.len() + w.len()) {
         return Loops::Refused(input_checks::small_area(0));
     }
-    verdict(joining::join(v, w, commands, &conflicts, area))
+    verdict(conjugacy_of_plans::join(v, w, commands, &conflicts, area))
 }

@@ -5,7 +5,7 @@ use mathlib.Core.Bool.{Bool, true, false, not, _&&_, true≢false}
 use mathlib.Core.List.{List}
 use mathlib.Core.Logic.{_↔_}
 use borrow.Author.Tests.{not-true, not-false}
-use Rattle.input_plan.specs.Letters.{alphabet}
+use Rattle.spec.specs.Letters.{alphabet}
 use Rattle.theory_conjugacy.specs.Part.{commands, labels, label, apexes}
 use Rattle.theory_conjugacy.specs.PartLaws.{label-same}
 use Rattle.theory_conjugacy.specs.Decision.{alike?, parts-joined?, cores-joined?}

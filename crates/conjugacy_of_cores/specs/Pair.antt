@@ -6,10 +6,10 @@ use mathlib.Core.Bool.{false, _&&_}
 use mathlib.Core.List.{List, [], _++_}
 use lib.ListN.{length, take, getD}
 use lib.Dec.{eqb}
-use Rattle.input_catalogue.specs.Catalogue as Catalogue
+use Rattle.spec.specs.Catalogue as Catalogue
 use Rattle.theory_words.specs.Group.{_≈_, conj}
-use Rattle.input_plan.specs.Letters.{alphabet}
-use Rattle.input_plan.specs.LettersLaws.{Commands}
+use Rattle.spec.specs.Letters.{alphabet}
+use Rattle.spec_laws.specs.LettersLaws.{Commands}
 use Rattle.theory_conjugacy.specs.Part.{chosen-step, commands, label, apexes}
 use Rattle.theory_conjugacy.specs.PartLaws.{shares}
 use Rattle.theory_conjugacy.specs.Decision.{cores-joined?}

@@ -16,12 +16,12 @@ use Rattle.theory_conjugacy.specs.Decision.{cores-joined?}
 use Rattle.theory_conjugacy.specs.DecisionLaws.{none-occur, cores-true, cores-lead}
 use Rattle.theory_conjugacy.specs.LeadIn.{parts-lead}
 use Rattle.theory_conjugacy.specs.JoinLaws.{parts-lead-length, parts-lead-all}
-use Rattle.input_catalogue.specs.Catalogue.{commands}
-use Rattle.input_plan.specs.Plan.{isCommand}
-use Rattle.input_plan.specs.Byte.{commandOf}
-use Rattle.input_plan.specs.CommandLaws.{isCommand-undone}
-use Rattle.input_plan.specs.Letters.{alphabet}
-use Rattle.input_plan.specs.LettersLaws.{commands-range}
+use Rattle.spec.specs.Catalogue.{commands}
+use Rattle.spec.specs.Plan.{isCommand}
+use Rattle.spec.specs.Byte.{commandOf}
+use Rattle.spec_laws.specs.CommandLaws.{isCommand-undone}
+use Rattle.spec.specs.Letters.{alphabet}
+use Rattle.spec_laws.specs.LettersLaws.{commands-range}
 use Rattle.conjugacy_ring.specs.Ring.{Cyclic}
 use Rattle.conjugacy_of_cores.specs.Pair.{Passage, CoresLed}
 

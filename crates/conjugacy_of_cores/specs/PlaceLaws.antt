@@ -6,7 +6,7 @@ use lib.ListN.{length, getD}
 use lib.Dec.{eqb}
 use borrow.Author.Tests.{eq-eqb}
 use Rattle.conjugacy_parts.specs.FlagsLaws.{flag-set}
-use Rattle.input_plan.specs.Letters.{alphabet}
+use Rattle.spec.specs.Letters.{alphabet}
 use Rattle.theory_conjugacy.specs.AscendingLaws.{_∈_, chosen-in}
 use Rattle.theory_conjugacy.specs.Part.{commands, label, apexes, part, share}
 use Rattle.theory_conjugacy.specs.PartLaws.{shares, part-share}

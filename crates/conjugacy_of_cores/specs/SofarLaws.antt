@@ -10,9 +10,9 @@ use lib.ListN.{length, take, length-append}
 use Rattle.theory_words.specs.BoolLaws.{and-both}
 use Rattle.theory_words.specs.All.{all-map}
 use Rattle.theory_words.specs.TraceLaws.{~-length}
-use Rattle.input_catalogue.specs.Catalogue as Catalogue
-use Rattle.input_plan.specs.CommandLaws.{command-range}
-use Rattle.input_plan.specs.Letters.{alphabet}
+use Rattle.spec.specs.Catalogue as Catalogue
+use Rattle.spec_laws.specs.CommandLaws.{command-range}
+use Rattle.spec.specs.Letters.{alphabet}
 use Rattle.theory_conjugacy.specs.AscendingLaws.{_∈_, Within}
 use Rattle.theory_conjugacy.specs.CommandLaws.{Occurs, all-occurs}
 use Rattle.theory_conjugacy.specs.Part.{commands, label, apexes, part, share}

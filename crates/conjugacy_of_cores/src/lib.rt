@@ -9,7 +9,7 @@ use conjugacy_parts::same_commands;
 ghost use Prim.Native.Nat.{ℕ, _+_, _*_, _<_, _≤_};
 ghost use mathlib.Core.List.{List};
 ghost use lib.ListN.{length};
-ghost use Rattle.input_plan.specs.Letters.{alphabet};
+ghost use Rattle.spec.specs.Letters.{alphabet};
 ghost use Rattle.theory_conjugacy.specs.Part.{apexes};
 ghost use Rattle.conjugacy_of_parts.specs.Lead.{Leads};
 ghost use Rattle.conjugacy_of_cores.specs.Pair.{apexAt, Leadable, Placeable, Coreable, CoresLead};

@@ -4,9 +4,9 @@ use mathlib.Core.Path.{_≡_}
 use mathlib.Core.Bool.{true, false}
 use mathlib.Core.List.{List, [], _++_}
 use lib.ListN.{length, take}
-use Rattle.input_catalogue.specs.Catalogue as Catalogue
+use Rattle.spec.specs.Catalogue as Catalogue
 use Rattle.theory_words.specs.Group.{undo}
-use Rattle.input_plan.specs.Letters.{alphabet}
+use Rattle.spec.specs.Letters.{alphabet}
 use Rattle.theory_conjugacy.specs.AscendingLaws.{_∈_}
 use Rattle.theory_conjugacy.specs.Part.{commands, apexes, part}
 use Rattle.theory_conjugacy.specs.Rotation.{rotation}

@@ -9,7 +9,7 @@ use mathlib.Core.List.{List, [], _∷_, _++_, append-assoc, append-nil}
 use lib.ListN.{length, take, length-append, length-take}
 use lib.Seq.{length-take-le, take-take, take-at}
 use Rattle.theory_words.specs.Group.{undo}
-use Rattle.input_plan.specs.Letters.{alphabet}
+use Rattle.spec.specs.Letters.{alphabet}
 use Rattle.theory_conjugacy.specs.AscendingLaws.{_∈_}
 use Rattle.theory_conjugacy.specs.Part.{apexes, part}
 use Rattle.theory_conjugacy.specs.PartLaws.{apexes-same}

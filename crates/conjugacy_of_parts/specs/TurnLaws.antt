@@ -10,7 +10,7 @@ use lib.Seq.{length-take-le, take-take, take-at}
 use lib.Dec.{eqb}
 use Rattle.theory_words.specs.Group.{undo}
 use Rattle.theory_words.specs.GroupLaws.{undo-append, undo-undo}
-use Rattle.input_plan.specs.Letters.{alphabet, undoneBefore}
+use Rattle.spec.specs.Letters.{alphabet, undoneBefore}
 use Rattle.theory_conjugacy.specs.Rotation.{rotation}
 use Rattle.theory_conjugacy.specs.RotationLaws.{rotation-some, rotation-rotated}
 use Rattle.theory_conjugacy.specs.Decision.{found?, rotated?}

@@ -5,10 +5,10 @@ use mathlib.Core.Bool.{true, false}
 use mathlib.Core.List.{List, _++_}
 use lib.ListN.{length, take, drop}
 use Rattle.theory_conjugacy.specs.Decision.{joined?}
-use Rattle.input_catalogue.specs.Catalogue.{commands}
-use Rattle.input_plan.specs.Letters.{letters, alphabet, normalForm}
-use Rattle.input_plan.specs.LettersLaws.{Commands}
-use Rattle.engine.specs.Passed.{Passed}
+use Rattle.spec.specs.Catalogue.{commands}
+use Rattle.spec.specs.Letters.{letters, alphabet, normalForm}
+use Rattle.spec_laws.specs.LettersLaws.{Commands}
+use Rattle.input_checks.specs.Passed.{Passed}
 use Rattle.spec.specs.Loops.{LeadIn, leadInRoom}
 use Rattle.conjugacy_of_plans.specs.Stripped.{Stripped}
 use Rattle.conjugacy_of_parts.specs.declared.Outcome.{Outcome}

@@ -8,13 +8,13 @@ use lib.ListN.{length, take, length-take}
 use Rattle.theory_words.specs.TraceLaws.{~-sym}
 use Rattle.theory_conjugacy.specs.TurnLaws.{round-~}
 use Rattle.theory_conjugacy.specs.CoreLaws.{core-round}
-use Rattle.input_catalogue.specs.Catalogue.{commands}
-use Rattle.input_plan.specs.Area.{StartsWith}
-use Rattle.input_plan.specs.AreaLaws.{starts-area}
-use Rattle.input_plan.specs.Letters.{letters, alphabet, undoneBefore, normalForm}
-use Rattle.input_plan.specs.LettersLaws.{letters-length, commands-passing}
-use Rattle.long_reduction.specs.Reducing.{Given}
-use Rattle.long_wordform.specs.Forming.{Formable}
+use Rattle.spec.specs.Catalogue.{commands}
+use Rattle.array_row.specs.Area.{StartsWith}
+use Rattle.array_row.specs.AreaLaws.{starts-area}
+use Rattle.spec.specs.Letters.{letters, alphabet, undoneBefore, normalForm}
+use Rattle.spec_laws.specs.LettersLaws.{letters-length, commands-passing}
+use Rattle.long_form.specs.Reducing.{Given}
+use Rattle.long_form.specs.Forming.{Formable}
 use Rattle.array_row.specs.Row.{Appended}
 use Rattle.array_row.specs.RowLaws.{appended-take, appended-length, undone-length}
 use Rattle.conjugacy_ring.specs.Ring.{Cyclic}
@@ -23,7 +23,7 @@ use Rattle.conjugacy_of_parts.specs.declared.Outcome.the-variants.{Joined, Apar
 use Rattle.conjugacy_of_parts.specs.Lead.{Stops}
 use Rattle.conjugacy_of_cores.specs.Pair.{Coreable, CoresLed, CoresLead}
 use Rattle.conjugacy_of_parts.specs.TurnLaws.{undone-undo}
-use Rattle.engine.specs.Passed.{Passed}
+use Rattle.input_checks.specs.Passed.{Passed}
 use Rattle.conjugacy_of_plans.specs.VerdictLaws.{through, through-count}
 use Rattle.conjugacy_of_plans.specs.Stripped.{Stripped}
 use Rattle.conjugacy_of_plans.specs.StrippedLaws.{core-~, off-length, off-commands, no-letters, verdict}

@@ -1,3 +1,6 @@
+pub mod UnsettledLaws
+pub mod CoresLaws
+pub mod SpanLaws
 pub mod VerdictLaws
 pub mod Stripped
 pub mod StrippedLaws

@@ -4,7 +4,7 @@ use mathlib.Core.Path.{_≡_}
 use mathlib.Core.List.{List}
 use Rattle.theory_words.specs.Trace.{_~_}
 use Rattle.theory_conjugacy.specs.Core.{lead}
-use Rattle.input_plan.specs.Letters.{letters, alphabet}
+use Rattle.spec.specs.Letters.{letters, alphabet}
 use Rattle.spec.specs.Calls.{coreForm}
 
 -- x is the core of the plan, in normal form, and g the letters taken off in front, up to swaps

@@ -21,14 +21,14 @@ use Rattle.theory_conjugacy.specs.CoreLaws.{core-reduced, core-conj, core-lengt
 use Rattle.theory_conjugacy.specs.ConjugateLaws.{conjugate-cores}
 use Rattle.theory_conjugacy.specs.Decision.{cores-joined?, joined?}
 use Rattle.theory_conjugacy.specs.DecisionLaws.{bound, none-occur, conjugate-joined}
-use Rattle.input_catalogue.specs.Catalogue.{commands}
-use Rattle.input_plan.specs.Plan.{isCommand, Passing}
-use Rattle.input_plan.specs.CommandLaws.{isCommand-undone}
-use Rattle.input_plan.specs.Letters.{letters, alphabet, normalForm}
-use Rattle.input_plan.specs.LettersLaws.{Commands, commands-range, commands-passing}
-use Rattle.input_plan.specs.LettersLaws.{letters-commands, letters-length, letters-same}
-use Rattle.input_plan.specs.NormalFormLaws.{normal-letters, normal-passing}
-use Rattle.input_plan.specs.JoinLaws.{joins-words}
+use Rattle.spec.specs.Catalogue.{commands}
+use Rattle.spec.specs.Plan.{isCommand, Passing}
+use Rattle.spec_laws.specs.CommandLaws.{isCommand-undone}
+use Rattle.spec.specs.Letters.{letters, alphabet, normalForm}
+use Rattle.spec_laws.specs.LettersLaws.{Commands, commands-range, commands-passing}
+use Rattle.spec_laws.specs.LettersLaws.{letters-commands, letters-length, letters-same}
+use Rattle.spec_laws.specs.NormalFormLaws.{normal-letters, normal-passing}
+use Rattle.spec_laws.specs.JoinLaws.{joins-words}
 use Rattle.spec.specs.Calls.{coreForm}
 use Rattle.spec.specs.Loops.{LeadIn, leadInRoom}
 use Rattle.conjugacy_of_cores.specs.Pair.{Passage}

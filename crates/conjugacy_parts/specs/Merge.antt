@@ -5,7 +5,8 @@ use mathlib.Core.Path.{_≡_}
 use mathlib.Core.List.{List, [], _∷_}
 use lib.ListN.{length, getD}
 use lib.Dec.{eqb}
-use Rattle.input_catalogue.specs.Conflict.{bit, conflict}
+use Rattle.input_conflicts.specs.Conflicts.{bit}
+use Rattle.spec.specs.Conflict.{conflict}
 use Rattle.theory_conjugacy.specs.Part.{chosen-step, relabel-step}
 
 -- every label that is low has become high

@@ -11,8 +11,9 @@ use borrow.Author.Tests.{eqb-true, eq-eqb, ne-eqb}
 use lib.Dec.{eqb}
 use lib.ListN.{length, getD, set, drop, length-set, drop-of-length-le}
 use lib.Seq.{getD-set-same, getD-set-other, drop-cons}
-use Rattle.input_catalogue.specs.Conflict.{bit, conflict}
-use Rattle.input_plan.specs.Letters.{alphabet}
+use Rattle.input_conflicts.specs.Conflicts.{bit}
+use Rattle.spec.specs.Conflict.{conflict}
+use Rattle.spec.specs.Letters.{alphabet}
 use Rattle.theory_conjugacy.specs.Part.{chosen-step, relabel-step, relabel, merge-step, merge, merge-row, merge-all, labels}
 use Rattle.conjugacy_parts.specs.Flags.{Flags, LabelsOf}
 use Rattle.conjugacy_parts.specs.FlagsLaws.{flags-list}

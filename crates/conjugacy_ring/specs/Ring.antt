@@ -3,10 +3,10 @@ use Prim.Native.Nat.{ℕ, _+_, _*_, _≤_}
 use mathlib.Core.Path.{_≡_}
 use mathlib.Core.List.{List, [], _++_}
 use lib.ListN.{length, take}
-use Rattle.input_catalogue.specs.Catalogue.{commands}
-use Rattle.input_catalogue.specs.Conflict.{Conflicts}
-use Rattle.input_plan.specs.Letters.{alphabet}
-use Rattle.input_plan.specs.LettersLaws.{Commands}
+use Rattle.spec.specs.Catalogue.{commands}
+use Rattle.input_conflicts.specs.Conflicts.{Conflicts}
+use Rattle.spec.specs.Letters.{alphabet}
+use Rattle.spec_laws.specs.LettersLaws.{Commands}
 use Rattle.theory_conjugacy.specs.Turn.{Round}
 use Rattle.theory_conjugacy.specs.AscendingLaws.{_∈_}
 use Rattle.theory_conjugacy.specs.Part.{label, apexes, part}

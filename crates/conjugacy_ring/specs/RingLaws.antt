@@ -11,15 +11,15 @@ use Rattle.theory_words.specs.All.{All, all-map}
 use Rattle.theory_words.specs.Reduce.{reduce}
 use Rattle.theory_words.specs.ReduceLaws.{reduce-fixed}
 use Rattle.theory_words.specs.Normal.{nf, lex}
-use Rattle.input_catalogue.specs.Catalogue.{commands}
-use Rattle.input_plan.specs.Area.{StartsWith}
-use Rattle.input_plan.specs.AreaLaws.{starts-take}
-use Rattle.input_plan.specs.Plan.{isCommand}
+use Rattle.spec.specs.Catalogue.{commands}
+use Rattle.array_row.specs.Area.{StartsWith}
+use Rattle.array_row.specs.AreaLaws.{starts-take}
+use Rattle.spec.specs.Plan.{isCommand}
 use Rattle.input_plan.specs.Lettered.{Lettered}
 use Rattle.input_plan.specs.LetteredLaws.{commands-lettered}
-use Rattle.input_plan.specs.CommandLaws.{command-range}
-use Rattle.input_plan.specs.Letters.{letters, alphabet, normalForm}
-use Rattle.input_plan.specs.LettersLaws.{Commands, letters-same, letters-length, commands-passing}
+use Rattle.spec_laws.specs.CommandLaws.{command-range}
+use Rattle.spec.specs.Letters.{letters, alphabet, normalForm}
+use Rattle.spec_laws.specs.LettersLaws.{Commands, letters-same, letters-length, commands-passing}
 use Rattle.theory_conjugacy.specs.Turn.{Turns}
 use Rattle.theory_conjugacy.specs.TurnLaws.{round-turns, round-reduced, turns-length}
 use Rattle.theory_conjugacy.specs.FilterLaws.{filter-length}
@@ -38,8 +38,8 @@ use Rattle.theory_conjugacy.specs.JoinLaws.{part-all}
 use Rattle.conjugacy_settling.specs.Settling.{Settleable, Ended, Answered}
 use Rattle.conjugacy_settling.specs.declared.Settled.{Settled}
 use Rattle.conjugacy_settling.specs.declared.Settled.the-variants.{Done, Unsettled}
-use Rattle.long_reduction.specs.Reducing.{Given}
-use Rattle.long_wordform.specs.Forming.{Formable}
+use Rattle.long_form.specs.Reducing.{Given}
+use Rattle.long_form.specs.Forming.{Formable}
 use Rattle.conjugacy_ring.specs.PartLaws.{part-round, turns-all}
 use Rattle.conjugacy_ring.specs.Ring.{Cyclic, Ringable, Rung}
 

@@ -3,7 +3,7 @@
 use conjugacy_parts::part;
 use conjugacy_settling::Settled;
 use conjugacy_settling::settle;
-use long_wordform::form;
+use long_form::form;
 ghost use Prim.Native.Nat.{ℕ};
 ghost use mathlib.Core.Path.{_≡_};
 ghost use mathlib.Core.List.{List};

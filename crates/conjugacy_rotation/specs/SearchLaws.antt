@@ -10,7 +10,7 @@ use borrow.Author.Tests.{ltb-true, ltb-false}
 use lib.Dec.{ltb}
 use lib.ListN.{length, getD, take, drop, length-append, length-take, length-drop, List·getD-append}
 use lib.Seq.{getD-drop, getD-take, getD-append-add, ext-getD}
-use Rattle.input_plan.specs.Letters.{alphabet}
+use Rattle.spec.specs.Letters.{alphabet}
 use Rattle.theory_conjugacy.specs.Rotation.{rotation, Rotated}
 use Rattle.theory_conjugacy.specs.RotationLaws.{rotation-some, rotation-none, rotate-rotated, rotated-length}
 use Rattle.conjugacy_rotation.specs.Stride.{Ahead, Stride}

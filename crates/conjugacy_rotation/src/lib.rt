@@ -4,7 +4,7 @@ use array_row::same_bytes;
 ghost use Prim.Native.Nat.{ℕ};
 ghost use mathlib.Core.Path.{_≡_};
 ghost use mathlib.Core.List.{List};
-ghost use Rattle.input_plan.specs.Letters.{alphabet};
+ghost use Rattle.spec.specs.Letters.{alphabet};
 ghost use Rattle.theory_conjugacy.specs.Rotation.{rotation};
 ghost use Rattle.conjugacy_rotation.specs.Told.{toldStart};
 ghost use Rattle.conjugacy_rotation.specs.Stride.{Ahead, Stride};

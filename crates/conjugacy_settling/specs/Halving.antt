@@ -5,10 +5,10 @@ use mathlib.Core.Logic.{_⊎_}
 use mathlib.Core.List.{List, [], _++_}
 use lib.ListN.{length, getD, drop, set}
 use Rattle.theory_words.specs.All.{All}
-use Rattle.input_catalogue.specs.Conflict.{Conflicts}
-use Rattle.input_plan.specs.Byte.{commandOf}
+use Rattle.input_conflicts.specs.Conflicts.{Conflicts}
+use Rattle.spec.specs.Byte.{commandOf}
 use Rattle.input_plan.specs.Lettered.{Lettered}
-use Rattle.input_plan.specs.Letters.{alphabet}
+use Rattle.spec.specs.Letters.{alphabet}
 use Rattle.theory_conjugacy.specs.Settle.{split}
 use Rattle.array_sets.specs.Sets.{Clear, Table, Meeting, Added}
 use Rattle.conjugacy_settling.specs.declared.Halves.{Halves}

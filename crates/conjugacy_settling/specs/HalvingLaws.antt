@@ -12,10 +12,10 @@ use lib.Dec.{eqb}
 use borrow.Author.Tests.{eq-eqb, ne-eqb}
 use Rattle.theory_words.specs.All.{All}
 use Rattle.theory_words.specs.Normal.{meets}
-use Rattle.input_catalogue.specs.Conflict.{Conflicts}
-use Rattle.input_plan.specs.Byte.{commandOf}
+use Rattle.input_conflicts.specs.Conflicts.{Conflicts}
+use Rattle.spec.specs.Byte.{commandOf}
 use Rattle.input_plan.specs.Lettered.{Lettered}
-use Rattle.input_plan.specs.Letters.{alphabet}
+use Rattle.spec.specs.Letters.{alphabet}
 use Rattle.theory_conjugacy.specs.Settle.{hit, Split, stop, up}
 use Rattle.theory_conjugacy.specs.Settle as Settle
 use Rattle.theory_conjugacy.specs.SettleLaws.{split-unique}

@@ -8,9 +8,10 @@ use mathlib.Core.List.{List, [], _∷_, List·Memᴰ, List·Memᴰ·head, List·
 use lib.ListN.{getD}
 use Rattle.theory_words.specs.All.{All, all-map}
 use Rattle.theory_words.specs.Normal.{meets, meets-step}
-use Rattle.input_catalogue.specs.Conflict.{conflict, bit, Conflicts}
-use Rattle.input_catalogue.specs.ConflictLaws.{conflict-refl, conflict-sym}
-use Rattle.input_plan.specs.Letters.{alphabet}
+use Rattle.spec.specs.Conflict.{conflict}
+use Rattle.input_conflicts.specs.Conflicts.{bit, Conflicts}
+use Rattle.spec.specs.AlphabetLaws.{conflict-refl, conflict-sym}
+use Rattle.spec.specs.Letters.{alphabet}
 use Rattle.array_sets.specs.Sets.{In, Clear, Table, Added, empty}
 use Rattle.array_sets.specs.SetsLaws.{none-in}
 

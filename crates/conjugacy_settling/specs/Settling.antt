@@ -3,7 +3,7 @@ use Prim.Native.Nat.{ℕ, _+_, _*_, _≤_}
 use mathlib.Core.Path.{_≡_}
 use mathlib.Core.List.{List, [], _++_}
 use lib.ListN.{length, take}
-use Rattle.input_plan.specs.Letters.{alphabet}
+use Rattle.spec.specs.Letters.{alphabet}
 use Rattle.theory_conjugacy.specs.Settle.{split, settled, cycled}
 use Rattle.conjugacy_settling.specs.declared.Settled.{Settled}
 use Rattle.conjugacy_settling.specs.declared.Settled.the-variants.{Done, Unsettled}

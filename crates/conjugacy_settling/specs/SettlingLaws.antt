@@ -10,7 +10,7 @@ use Rattle.theory_words.specs.Alphabet.{Alphabet, Word}
 use Rattle.theory_words.specs.All.{All, all-along, all-append, all-left, all-right}
 use Rattle.theory_words.specs.TraceLaws.{~-length}
 use Rattle.input_plan.specs.Lettered.{Lettered}
-use Rattle.input_plan.specs.Letters.{alphabet}
+use Rattle.spec.specs.Letters.{alphabet}
 use Rattle.theory_conjugacy.specs.Settle.{split, settled, settled-step, cycled, cycled-step}
 use Rattle.theory_conjugacy.specs.SettleLaws.{split-splits, split-~}
 use Rattle.conjugacy_settling.specs.declared.Halves.{Halves}

@@ -1,6 +1,3 @@
-pub mod Catalogue
-pub mod CatalogueLaws
-pub mod Conflict
-pub mod ConflictLaws
+pub mod Checked
 pub mod Sound
 pub mod SoundLaws

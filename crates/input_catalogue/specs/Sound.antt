@@ -4,21 +4,10 @@ use mathlib.Core.Path.{_≡_}
 use mathlib.Core.List.{List}
 use mathlib.Core.Option.{Option}
 use lib.ListN.{length}
-use Rattle.refusal.specs.Line.{Line, toldChecked, orElse}
-use Rattle.refusal.specs.declared.Checked.{Checked}
-use Rattle.input_catalogue.specs.Catalogue.{
-  commands,
-  records,
-  head,
-  command,
-  next,
-  orIf,
-  sizeLine,
-  countLine,
-  headLine,
-  nextLine,
-  recordLine,
-}
+use Rattle.spec.specs.Table.{Line, orElse}
+use Rattle.input_catalogue.specs.Checked.{toldChecked}
+use Rattle.input_catalogue.specs.declared.Checked.{Checked}
+use Rattle.spec.specs.Catalogue.{commands, records, head, command, next, orIf, sizeLine, countLine, headLine, nextLine, recordLine}
 
 -- lines 1 and 2 together
 abbrev pub frameLine : List ℕ → Option Line

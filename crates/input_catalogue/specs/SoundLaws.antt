@@ -9,14 +9,15 @@ use lib.ListN.{length, getD}
 use lib.Dec.{ltb, eqb}
 use borrow.Author.Tests.{lt-ltb, le-ltb, eq-eqb, ne-eqb, le-leb, ltb-false, eqb-true, eqb-false, not-false}
 use Rattle.theory_words.specs.BoolLaws.{or-neither}
-use Rattle.refusal.specs.Line.{Line, line, toldChecked, refused, orElse, holds}
-use Rattle.refusal.specs.Search.{lineAt}
-use Rattle.refusal.specs.SearchLaws.{search-none, passed-line, refused-line}
-use Rattle.refusal.specs.declared.Refusal.{Refusal}
-use Rattle.refusal.specs.declared.Checked.{Checked}
-use Rattle.refusal.specs.declared.Checked.the-variants.{Passed, Refused}
-use Rattle.input_catalogue.specs.Catalogue.{commands, records, head, headPlace, command, next, nextPlace, commandPlace}
-use Rattle.input_catalogue.specs.Catalogue.{orIf, countLine, headLine, nextLine, recordLine}
+use Rattle.spec.specs.Table.{Line, line, refused, orElse, holds}
+use Rattle.input_catalogue.specs.Checked.{toldChecked}
+use Rattle.spec.specs.Table.{lineAt}
+use Rattle.spec_laws.specs.SearchLaws.{search-none, passed-line, refused-line}
+use Rattle.spec.specs.declared.Refusal.{Refusal}
+use Rattle.input_catalogue.specs.declared.Checked.{Checked}
+use Rattle.input_catalogue.specs.declared.Checked.the-variants.{Passed, Refused}
+use Rattle.spec.specs.Catalogue.{commands, records, head, headPlace, command, next, nextPlace, commandPlace}
+use Rattle.spec.specs.Catalogue.{orIf, countLine, headLine, nextLine, recordLine}
 use Rattle.input_catalogue.specs.Sound.{frameLine, Decides, Framed, Sound}
 
 pub some-none : {A : Type 0} {a : A} → some a ≡ none → ⊥

@@ -2,12 +2,18 @@
 // specs/Catalogue.antt states the lines and specs/Conflict.antt the conflicts that the chains tell.
 
 ghost use mathlib.Core.Path.{_≡_};
-ghost use Rattle.refusal.specs.Line.{line, numberOf, toldChecked, refused as refusedBy};
-ghost use Rattle.input_catalogue.specs.Catalogue.{headLine, nextLine, recordLine};
+ghost use Rattle.spec.specs.Table.{line, numberOf, refused as refusedBy};
+ghost use Rattle.input_catalogue.specs.Checked.{toldChecked};
+ghost use Rattle.spec.specs.Catalogue.{headLine, nextLine, recordLine};
 ghost use Rattle.input_catalogue.specs.Sound.{Decides, frameLine, soundLine, Framed};
-use refusal::Checked;
-use refusal::Reason;
-use refusal::Refusal;
+use spec::Reason;
+use spec::Refusal;
+
+// What a check of one input finds: it passes, with the number that the caller goes on with, or it is refused.
+pub enum Checked {
+    Passed(usize),
+    Refused(Refusal),
+}
 
 // A refusal of the catalogue, which counts as plan 0.
 pub fn refused(reason: Reason, place: usize) -> Checked
@@ -89,7 +95,7 @@ fn named(c: &[u8]) -> Checked
 }
 
 // Lines 1 to 4.
-pub fn checked(c: &[u8]) -> Checked
+pub fn check(c: &[u8]) -> Checked
     ensures { λ r. ⌜ Decides (now (c .entry)) (soundLine (now (c .entry))) r ⌝ }
 {
     let frame = framed(c);

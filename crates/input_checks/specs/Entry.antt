@@ -4,13 +4,14 @@ use mathlib.Core.Path.{_≡_}
 use mathlib.Core.List.{List, _++_}
 use mathlib.Core.Option.{Option, none}
 use lib.ListN.{length}
-use Rattle.refusal.specs.Line.{Line, Answer, refused, toldChecked, firstLine, orElse, lineOf}
-use Rattle.refusal.specs.declared.Refusal.{Refusal}
-use Rattle.refusal.specs.declared.Checked.{Checked}
-use Rattle.refusal.specs.declared.Checked.the-variants.{Refused}
-use Rattle.input_catalogue.specs.Catalogue.{commands, catalogueLines}
-use Rattle.input_plan.specs.Plan.{planLines, Passing}
-use Rattle.engine.specs.Passed.{Passed}
+use Rattle.spec.specs.Table.{Line, Answer, refused, firstLine, orElse, lineOf}
+use Rattle.input_catalogue.specs.Checked.{toldChecked}
+use Rattle.spec.specs.declared.Refusal.{Refusal}
+use Rattle.input_catalogue.specs.declared.Checked.{Checked}
+use Rattle.input_catalogue.specs.declared.Checked.the-variants.{Refused}
+use Rattle.spec.specs.Catalogue.{commands, catalogueLines}
+use Rattle.spec.specs.Plan.{planLines, Passing}
+use Rattle.input_checks.specs.Passed.{Passed}
 use Rattle.spec.specs.Calls.{planLimit}
 use Rattle.spec.specs.Loops.{leadInLimit}
 

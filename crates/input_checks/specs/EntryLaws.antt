@@ -5,30 +5,21 @@ use mathlib.Core.List.{List, _++_}
 use mathlib.Core.Option.{Option, none, some}
 use native.Mathlib.Omega.{arith}
 use lib.ListN.{length}
-use Rattle.refusal.specs.Line.{Line, Answer, refused, given, firstLine, orElse, toldChecked, lineOf}
-use Rattle.refusal.specs.LineLaws.{first-early, first-late, none-left, none-right}
-use Rattle.refusal.specs.SearchLaws.{passed-line, refused-line}
-use Rattle.refusal.specs.declared.Refusal.{Refusal}
-use Rattle.refusal.specs.declared.Checked.{Checked}
-use Rattle.refusal.specs.declared.Checked.the-variants.{Passed, Refused}
-use Rattle.input_catalogue.specs.Catalogue.{commands, catalogueLines}
+use Rattle.spec.specs.Table.{Line, Answer, refused, given, firstLine, orElse, lineOf}
+use Rattle.input_catalogue.specs.Checked.{toldChecked}
+use Rattle.spec_laws.specs.TableLaws.{first-early, first-late, none-left, none-right}
+use Rattle.spec_laws.specs.SearchLaws.{passed-line, refused-line}
+use Rattle.spec.specs.declared.Refusal.{Refusal}
+use Rattle.input_catalogue.specs.declared.Checked.{Checked}
+use Rattle.input_catalogue.specs.declared.Checked.the-variants.{Passed, Refused}
+use Rattle.spec.specs.Catalogue.{commands, catalogueLines}
 use Rattle.input_conflicts.specs.Reading.{Reading}
-use Rattle.input_plan.specs.Plan.{planLines, Passing}
-use Rattle.input_plan.specs.PlanLaws.{lines-pass}
+use Rattle.spec.specs.Plan.{planLines, Passing}
+use Rattle.spec_laws.specs.PlanLaws.{lines-pass}
 use Rattle.spec.specs.Calls.{planLimit}
-use Rattle.spec.specs.CallLaws.{few-commands}
+use Rattle.spec_laws.specs.CallLaws.{few-commands}
 use Rattle.spec.specs.Loops.{leadInLimit}
-use Rattle.input_checks.specs.Entry.{
-  Told,
-  Entered,
-  OnePlan,
-  TwoPlans,
-  ThreePlans,
-  oneLines,
-  twoLines,
-  threeLines,
-  SameRefusal,
-}
+use Rattle.input_checks.specs.Entry.{Told, Entered, OnePlan, TwoPlans, ThreePlans, oneLines, twoLines, threeLines, SameRefusal}
 
 -- a check whose told answer is known
 module _ (r : Checked) (o : Option Line) (a : ℕ) (t : toldChecked r ≡ orElse o a) where

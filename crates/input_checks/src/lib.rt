@@ -5,14 +5,14 @@ ghost use Prim.Native.Nat.{ℕ};
 ghost use mathlib.Core.Path.{_≡_};
 ghost use mathlib.Core.List.{List, _++_};
 ghost use mathlib.Core.Option.{Option};
-ghost use Rattle.refusal.specs.Line.{Line, line, lineOf};
-ghost use Rattle.input_catalogue.specs.Catalogue.{commands};
-ghost use Rattle.input_plan.specs.Plan.{planLines};
+ghost use Rattle.spec.specs.Table.{Line, line, lineOf};
+ghost use Rattle.spec.specs.Catalogue.{commands};
+ghost use Rattle.spec.specs.Plan.{planLines};
 ghost use Rattle.input_conflicts.specs.Marks.{Blank};
 ghost use Rattle.input_checks.specs.Entry.{Told, OnePlan, TwoPlans, ThreePlans};
-use refusal::Checked;
-use refusal::Reason;
-use refusal::Refusal;
+use input_catalogue::Checked;
+use spec::Reason;
+use spec::Refusal;
 
 // One more plan, of this number and of at most so many bytes, after the checks before it. A refusal of any of them is
 // passed on untouched.

@@ -4,10 +4,10 @@ use mathlib.Core.Path.{_≡_, refl}
 use mathlib.Core.Bool.{true, false}
 use mathlib.Core.List.{List, [], _∷_}
 use mathlib.Core.Option.{Option, none, some}
-use Rattle.refusal.specs.Line.{Line, line, firstLine}
-use Rattle.input_catalogue.specs.Catalogue.{ends, follow, stands, catalogueLines}
-use Rattle.input_catalogue.specs.Conflict.{conflict}
-use Rattle.refusal.specs.Search.{firstOf}
+use Rattle.spec.specs.Table.{Line, line, firstLine}
+use Rattle.spec.specs.Catalogue.{ends, follow, stands, catalogueLines}
+use Rattle.spec.specs.Conflict.{conflict}
+use Rattle.spec.specs.Table.{firstOf}
 
 abbrev lineFor : List ℕ → Option Line
 lineFor c = firstLine (catalogueLines c)

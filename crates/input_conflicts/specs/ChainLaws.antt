@@ -8,12 +8,13 @@ use mathlib.Core.Bool.{Bool, true, false, not, _||_, _&&_, or-self, and-true, an
 use mathlib.Core.List.{List, []}
 use lib.Dec.{eqb, ltb, eqb·suc-suc}
 use borrow.Author.Tests.{ne-eqb, lt-ltb, le-ltb, lt-leb}
-use Rattle.input_catalogue.specs.Catalogue.{commands, records, head, ends, follow, chain, stands}
-use Rattle.input_catalogue.specs.Conflict.{bit, conflict, Conflicts}
-use Rattle.input_marks.specs.Marks.{cell, Shape, pairs}
+use Rattle.spec.specs.Catalogue.{commands, records, head, ends, follow, chain, stands}
+use Rattle.input_conflicts.specs.Conflicts.{bit, Conflicts}
+use Rattle.spec.specs.Conflict.{conflict}
+use Rattle.input_conflicts.specs.Pairs.{cell, Shape, pairs}
 use Rattle.input_conflicts.specs.Marks.{Blank, diagonal, Met}
 use Rattle.input_conflicts.specs.Known.{met, Chained}
-use Rattle.input_marks.specs.MarksLaws.{Fit, over-bit, pairs-shape, pairs-cell}
+use Rattle.input_conflicts.specs.PairsLaws.{Fit, over-bit, pairs-shape, pairs-cell}
 use Rattle.input_conflicts.specs.MarksLaws.{ltb-more, diagonal-shape, diagonal-cell}
 use Rattle.input_catalogue.specs.Sound.{Sound}
 

@@ -6,9 +6,9 @@ use mathlib.Core.Bool.{Bool, true, _||_, _&&_}
 use mathlib.Core.List.{List}
 use lib.ListN.{length, getD}
 use lib.Dec.{ltb}
-use Rattle.input_catalogue.specs.Catalogue.{records, head, ends, chain, stands}
-use Rattle.input_catalogue.specs.Conflict.{bit}
-use Rattle.input_marks.specs.Marks.{cell, Shape}
+use Rattle.spec.specs.Catalogue.{records, head, ends, chain, stands}
+use Rattle.input_conflicts.specs.Conflicts.{bit}
+use Rattle.input_conflicts.specs.Pairs.{cell, Shape}
 
 -- command i + 1 or j + 1 is below a and has the other in its chain
 abbrev pub met : List ℕ → ℕ → ℕ → ℕ → Bool

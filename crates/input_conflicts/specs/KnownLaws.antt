@@ -10,15 +10,15 @@ use lib.ListN.{length, getD, set, replicate, length-set, getD-replicate}
 use lib.Seq.{getD-set-same, getD-set-other}
 use lib.Dec.{eqb}
 use borrow.Author.Tests.{eq-eqb, ne-eqb}
-use Rattle.input_catalogue.specs.Catalogue.{commands, records, head, headPlace, ends, chain, stands}
-use Rattle.input_catalogue.specs.Conflict.{bit}
+use Rattle.spec.specs.Catalogue.{commands, records, head, headPlace, ends, chain, stands}
+use Rattle.input_conflicts.specs.Conflicts.{bit}
 use Rattle.input_catalogue.specs.Sound.{Sound}
 use Rattle.input_catalogue.specs.SoundLaws.{head-at}
-use Rattle.input_marks.specs.Marks.{cell, pairs, notes, members}
+use Rattle.input_conflicts.specs.Pairs.{cell, pairs, notes, members}
 use Rattle.input_conflicts.specs.Marks.{Blank}
-use Rattle.input_marks.specs.MarksLaws.{Fit, notes-shape, notes-cell}
-use Rattle.input_marks.specs.MembersLaws.{members-fit, members-stand}
-use Rattle.input_marks.specs.WalkLaws.{follow-fit}
+use Rattle.input_conflicts.specs.PairsLaws.{Fit, notes-shape, notes-cell}
+use Rattle.input_conflicts.specs.MembersLaws.{members-fit, members-stand}
+use Rattle.input_conflicts.specs.WalkLaws.{follow-fit}
 use Rattle.input_conflicts.specs.Known.{NoneKnown, Chained, Walked, Known}
 use Rattle.input_conflicts.specs.ChainLaws.{chained-again}
 

@@ -1,3 +1,8 @@
+pub mod Pairs
+pub mod PairsLaws
+pub mod MembersLaws
+pub mod WalkLaws
+pub mod Conflicts
 pub mod ChainLaws
 pub mod Known
 pub mod KnownLaws

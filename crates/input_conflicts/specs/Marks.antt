@@ -3,9 +3,9 @@ use Prim.Native.Nat.{ℕ, zero, suc, _+_, _<_}
 use mathlib.Core.Path.{_≡_}
 use mathlib.Core.Bool.{_||_}
 use mathlib.Core.List.{List}
-use Rattle.input_catalogue.specs.Catalogue.{chain, stands}
-use Rattle.input_catalogue.specs.Conflict.{bit}
-use Rattle.input_marks.specs.Marks.{cell, Shape, put}
+use Rattle.spec.specs.Catalogue.{chain, stands}
+use Rattle.input_conflicts.specs.Conflicts.{bit}
+use Rattle.input_conflicts.specs.Pairs.{cell, Shape, put}
 
 -- no mark is set
 pub record Blank (rows : List (List ℕ)) : Type 0 where

@@ -9,9 +9,9 @@ use mathlib.Core.List.{List, []}
 use lib.ListN.{replicate, getD-replicate}
 use lib.Dec.{eqb, ltb}
 use borrow.Author.Tests.{eq-eqb, ne-eqb, lt-ltb, le-ltb}
-use Rattle.input_catalogue.specs.ConflictLaws.{eqb-sym}
-use Rattle.input_marks.specs.Marks.{cell, Shape, put}
-use Rattle.input_marks.specs.MarksLaws.{over, put-shape, put-cell}
+use Rattle.spec.specs.AlphabetLaws.{eqb-sym}
+use Rattle.input_conflicts.specs.Pairs.{cell, Shape, put}
+use Rattle.input_conflicts.specs.PairsLaws.{over, put-shape, put-cell}
 use Rattle.input_conflicts.specs.Marks.{Blank, diagonal}
 
 abbrev zeros : List ℕ

@@ -3,24 +3,14 @@ use Prim.Native.Nat.{ℕ}
 use mathlib.Core.Path.{_≡_, refl, sym, _∙_, ap}
 use mathlib.Core.List.{List, [], _∷_}
 use mathlib.Core.Option.{Option, none, some}
-use Rattle.refusal.specs.Line.{Line, toldChecked, firstLine, orElse}
-use Rattle.refusal.specs.SearchLaws.{refused-line}
-use Rattle.refusal.specs.declared.Refusal.{Refusal}
-use Rattle.refusal.specs.declared.Checked.{Checked}
-use Rattle.refusal.specs.declared.Checked.the-variants.{Passed, Refused}
-use Rattle.input_catalogue.specs.Catalogue.{
-  commands,
-  orIf,
-  sizeLine,
-  countLine,
-  headLine,
-  nextLine,
-  recordLine,
-  endlessLine,
-  ownLine,
-  catalogueLines,
-}
-use Rattle.input_catalogue.specs.Conflict.{Conflicts}
+use Rattle.spec.specs.Table.{Line, firstLine, orElse}
+use Rattle.input_catalogue.specs.Checked.{toldChecked}
+use Rattle.spec_laws.specs.SearchLaws.{refused-line}
+use Rattle.spec.specs.declared.Refusal.{Refusal}
+use Rattle.input_catalogue.specs.declared.Checked.{Checked}
+use Rattle.input_catalogue.specs.declared.Checked.the-variants.{Passed, Refused}
+use Rattle.spec.specs.Catalogue.{commands, orIf, sizeLine, countLine, headLine, nextLine, recordLine, endlessLine, ownLine, catalogueLines}
+use Rattle.input_conflicts.specs.Conflicts.{Conflicts}
 use Rattle.input_catalogue.specs.Sound.{frameLine, soundLine, Decides, Sound}
 use Rattle.input_catalogue.specs.SoundLaws.{framed-from, sound-from, some-none}
 use Rattle.input_conflicts.specs.Reading.{Reading}

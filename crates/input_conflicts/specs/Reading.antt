@@ -3,10 +3,11 @@ use Prim.Native.Nat.{ℕ}
 use mathlib.Core.Path.{_≡_}
 use mathlib.Core.List.{List}
 use mathlib.Core.Option.{none}
-use Rattle.refusal.specs.Line.{toldChecked, firstLine, orElse}
-use Rattle.refusal.specs.declared.Checked.{Checked}
-use Rattle.input_catalogue.specs.Catalogue.{commands, catalogueLines}
-use Rattle.input_catalogue.specs.Conflict.{Conflicts}
+use Rattle.input_catalogue.specs.Checked.{toldChecked}
+use Rattle.spec.specs.Table.{firstLine, orElse}
+use Rattle.input_catalogue.specs.declared.Checked.{Checked}
+use Rattle.spec.specs.Catalogue.{commands, catalogueLines}
+use Rattle.input_conflicts.specs.Conflicts.{Conflicts}
 
 -- c is the catalogue, rows are the lent rows as the call leaves them, r is its answer
 pub record Reading (c : List ℕ) (rows : List (List ℕ)) (r : Checked) : Type 0 where

@@ -1,19 +1,89 @@
 // Reading a catalogue: its chains give lines 5 and 6 of document 01's table and the conflicts. A chain that several
 // commands have is walked once.
+// The marks of one chain: two commands of which one stands in the chain of the other are marked in the rows of both.
 
 ghost use mathlib.Core.Path.{_≡_};
 ghost use mathlib.Core.Bool.{true};
 ghost use mathlib.Core.Option.{none};
 ghost use Prim.Native.Nat.{_+_, _-_, _≤_};
-ghost use Rattle.input_catalogue.specs.Catalogue.{commands, records, head, ends, chain, endlessLine, ownLine};
+ghost use Rattle.spec.specs.Catalogue.{commands, records, head, ends, chain, endlessLine, ownLine};
 ghost use Rattle.input_catalogue.specs.Sound.{Decides, Framed, Sound};
-ghost use Rattle.input_marks.specs.Marks.{Shape};
+ghost use Rattle.input_conflicts.specs.Pairs.{Shape};
 ghost use Rattle.input_conflicts.specs.Marks.{Blank, Met, diagonal as diagonalOf};
 ghost use Rattle.input_conflicts.specs.Known.{NoneKnown, Chained, Known};
 ghost use Rattle.input_conflicts.specs.Reading.{Reading};
+use input_catalogue::Checked;
 use input_catalogue::refused;
-use refusal::Checked;
-use refusal::Reason;
+use spec::Reason;
+ghost use mathlib.Core.List.{[]};
+ghost use lib.ListN.{getD};
+ghost use Rattle.input_conflicts.specs.Pairs.{Shape, pair, pairs, note, notes, members, markedIf};
+
+// Marks that two commands conflict, in the rows of both.
+fn mark(a: usize, b: usize, rows: &mut [[u16; 24]; 24])
+    requires { ⌜ Shape (now rows) ⌝ ∗ ⌜ 1 ≤ a ⌝ ∗ ⌜ a ≤ 24 ⌝ ∗ ⌜ 1 ≤ b ⌝ ∗ ⌜ b ≤ 24 ⌝ }
+    ensures { λ _. ⌜ now (rows .exit) ≡ pair (now (rows .entry)) a b ⌝ }
+{
+    rows[a - 1][b - 1] = 1;
+    rows[b - 1][a - 1] = 1;
+}
+
+// Marks that two commands conflict, and notes in row a of own that b stands in the chain of a.
+fn meet(a: usize, b: usize, rows: &mut [[u16; 24]; 24], own: &mut [[u16; 24]; 24])
+    requires { ⌜ Shape (now rows) ⌝ ∗ ⌜ Shape (now own) ⌝
+        ∗ ⌜ (1 ≤ a) × (a ≤ 24) ⌝ ∗ ⌜ (1 ≤ b) × (b ≤ 24) ⌝ }
+    ensures { λ _. ⌜ now (rows .exit) ≡ pair (now (rows .entry)) a b ⌝ }
+    ensures { λ _. ⌜ now (own .exit) ≡ note (now (own .entry)) a b ⌝ }
+{
+    mark(a, b, rows);
+    own[a - 1][b - 1] = 1;
+}
+
+// Follows the chain of command a, of at most R records, and marks each command that it meets; which they are is also
+// noted in row a of own. Tells whether it ends.
+pub fn walk(c: &[u8], a: usize, rows: &mut [[u16; 24]; 24], own: &mut [[u16; 24]; 24]) -> bool
+    requires { ⌜ Sound (now c) ⌝ ∗ ⌜ Shape (now rows) ⌝ ∗ ⌜ Shape (now own) ⌝
+        ∗ ⌜ 1 ≤ a ⌝ ∗ ⌜ a ≤ commands (now c) ⌝ }
+    ensures { λ r. ⌜ r ≡ ends (now (c .entry)) (records (now (c .entry))) (head (now (c .entry)) a) ⌝ }
+    ensures { λ _. ⌜ now (rows .exit) ≡ pairs (now (rows .entry)) a (chain (now (c .entry)) a) ⌝ }
+    ensures { λ _. ⌜ now (own .exit) ≡ notes (now (own .entry)) a (chain (now (c .entry)) a) ⌝ }
+{
+    let n = c[0] as usize;
+    let mut left = c[1];
+    let mut at = c[1 + a] as usize;
+    while left != 0 {
+        if at == 0 {
+            return true;
+        }
+        meet(a, c[n + 2 * at] as usize, rows, own);
+        at = c[n + 2 * at + 1] as usize;
+        left -= 1;
+    }
+    at == 0
+}
+
+// Marks commands a and b where the flag is set.
+fn mark_if(flag: u16, a: usize, b: usize, rows: &mut [[u16; 24]; 24])
+    requires { ⌜ Shape (now rows) ⌝ ∗ ⌜ 1 ≤ a ⌝ ∗ ⌜ a ≤ 24 ⌝ ∗ ⌜ 1 ≤ b ⌝ ∗ ⌜ b ≤ 24 ⌝ }
+    ensures { λ _. ⌜ now (rows .exit) ≡ markedIf flag (now (rows .entry)) a b ⌝ }
+{
+    if flag != 0 {
+        mark(a, b, rows);
+    }
+}
+
+// Marks command a as the chain in row b of own tells.
+pub fn mark_like(own: &[[u16; 24]; 24], b: usize, a: usize, rows: &mut [[u16; 24]; 24])
+    requires { ⌜ Shape (now own) ⌝ ∗ ⌜ Shape (now rows) ⌝
+        ∗ ⌜ (1 ≤ a) × (a ≤ 24) ⌝ ∗ ⌜ (1 ≤ b) × (b ≤ 24) ⌝ }
+    ensures { λ _. ⌜ now (rows .exit) ≡ pairs (now (rows .entry)) a (members 0 (getD (now (own .entry)) (b - 1) [])) ⌝ }
+{
+    let mut j = 0;
+    while j < 24 {
+        mark_if(own[b - 1][j], a, j + 1, rows);
+        j += 1;
+    }
+}
 
 // The chain of command a: walked, or marked as that of the first command with the same head. Tells whether it ends.
 fn chain_of(
@@ -32,11 +102,11 @@ fn chain_of(
     let h = c[1 + a] as usize;
     let b = firsts[h] as usize;
     if b != 0 {
-        input_marks::mark_like(own, b, a, rows);
+        mark_like(own, b, a, rows);
         return true;
     }
     firsts[h] = a as u8;
-    input_marks::walk(c, a, rows, own)
+    walk(c, a, rows, own)
 }
 
 // Line 5.
@@ -108,7 +178,7 @@ pub fn read(catalogue: &[u8], conflicts: &mut [[u16; 24]; 24]) -> Checked
     requires { ⌜ Blank (now conflicts) ⌝ }
     ensures { λ r. ⌜ Reading (now (catalogue .entry)) (now (conflicts .exit)) r ⌝ }
 {
-    let sound = input_catalogue::checked(catalogue);
+    let sound = input_catalogue::check(catalogue);
     let Checked::Passed(_) = sound else {
         return sound;
     };

@@ -12,8 +12,8 @@ use borrow.Author.Tests.{le-leb, lt-leb, eqb-true, eq-eqb}
 use lib.Bits.{bitOr, or-add-and, and-le-l, and-le-r}
 use lib.Dec.{eqb}
 use lib.ListN.{length, getD}
-use Rattle.input_plan.specs.Plan.{passes, Passing}
-use Rattle.input_plan.specs.PlanLaws.{passes-low, passes-mid, passes-high, passing-at, passing-by}
+use Rattle.spec.specs.Plan.{passes, Passing}
+use Rattle.spec_laws.specs.PlanLaws.{passes-low, passes-mid, passes-high, passing-at, passing-by}
 
 -- what a byte is above 128
 fold-low : (b : ℕ) → b < 128 → b % 128 ≡ b

@@ -4,9 +4,9 @@ use mathlib.Core.Path.{_≡_, subst}
 use mathlib.Core.List.{List}
 use native.Mathlib.Omega.{arith}
 use Rattle.theory_words.specs.All.{All, all-map}
-use Rattle.input_plan.specs.Byte.{commandOf}
-use Rattle.input_plan.specs.CommandLaws.{command-range}
-use Rattle.input_plan.specs.LettersLaws.{Commands}
+use Rattle.spec.specs.Byte.{commandOf}
+use Rattle.spec_laws.specs.CommandLaws.{command-range}
+use Rattle.spec_laws.specs.LettersLaws.{Commands}
 use Rattle.input_plan.specs.Lettered.{Lettered}
 
 pub lettered-filler : {b : ℕ} → Lettered b → ¬ (b ≡ 0)

@@ -1,16 +1,17 @@
 // Plans of bytes: lines 7 and 8 of document 01's table, over any bytes of any length, and the undo of a byte.
 
-use refusal::Checked;
-use refusal::Reason;
-use refusal::Refusal;
+use input_catalogue::Checked;
+use spec::Reason;
+use spec::Refusal;
 ghost use Prim.Native.Nat.{_<_};
 ghost use mathlib.Core.Path.{_≡_};
 ghost use mathlib.Core.Bool.{true};
 ghost use mathlib.Core.Logic.{_↔_};
 ghost use lib.ListN.{length};
-ghost use Rattle.refusal.specs.Line.{numberOf, line, refused, toldChecked, orElse, firstLine};
-ghost use Rattle.input_plan.specs.Plan.{passes, firstBad, planLines, Passing};
-ghost use Rattle.input_plan.specs.Byte.{undone};
+ghost use Rattle.spec.specs.Table.{numberOf, line, refused, orElse, firstLine};
+ghost use Rattle.input_catalogue.specs.Checked.{toldChecked};
+ghost use Rattle.spec.specs.Plan.{passes, firstBad, planLines, Passing};
+ghost use Rattle.spec.specs.Byte.{undone};
 ghost use Rattle.input_plan.specs.Place.{toldPlace};
 
 // Where a byte stands that does not pass.

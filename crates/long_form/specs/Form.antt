@@ -2,7 +2,7 @@
 use Prim.Native.Nat.{ℕ, _≤_}
 use mathlib.Core.List.{List}
 use lib.ListN.{length}
-use Rattle.input_plan.specs.Letters.{letters}
+use Rattle.spec.specs.Letters.{letters}
 
 -- two rows to work in, and an area for the letters
 pub record Room (word under link area : List ℕ) : Type 0 where

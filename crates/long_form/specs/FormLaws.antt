@@ -6,9 +6,9 @@ use lib.ListN.{length}
 use Rattle.theory_words.specs.Normal.{nf}
 use Rattle.theory_words.specs.Reduce.{reduce}
 use Rattle.theory_words.specs.ReduceLaws.{reduce-length}
-use Rattle.input_plan.specs.Area.{StartsWith, ReadOff}
-use Rattle.input_plan.specs.Letters.{letters, alphabet, normalForm}
-use Rattle.long_reduction.specs.Reducing.{Reducing}
+use Rattle.array_row.specs.Area.{StartsWith, ReadOff}
+use Rattle.spec.specs.Letters.{letters, alphabet, normalForm}
+use Rattle.long_form.specs.Reducing.{Reducing}
 use Rattle.long_form.specs.Reading.{Readable}
 
 pub form-readable : {c : List ℕ} {conflicts : List (List ℕ)} {word under link tops blanks area : List ℕ}

@@ -13,10 +13,10 @@ use Rattle.theory_words.specs.TraceLaws.{first-none, pick-length}
 use Rattle.theory_words.specs.Normal.{lex}
 use Rattle.theory_words.specs.NormalLaws.{Least, lex-pick}
 use Rattle.theory_words.specs.WritingLaws.{take-more, drop-more}
-use Rattle.input_catalogue.specs.Conflict.{Conflicts}
-use Rattle.input_plan.specs.Area.{ReadOff}
-use Rattle.input_plan.specs.Byte.{commandOf}
-use Rattle.input_plan.specs.Letters.{alphabet}
+use Rattle.input_conflicts.specs.Conflicts.{Conflicts}
+use Rattle.array_row.specs.Area.{ReadOff}
+use Rattle.spec.specs.Byte.{commandOf}
+use Rattle.spec.specs.Letters.{alphabet}
 use Rattle.input_plan.specs.Lettered.{Lettered}
 use Rattle.long_stacks.specs.Runs.{Stacks}
 use Rattle.long_stacks.specs.Moves.{Cuttable, Cut}

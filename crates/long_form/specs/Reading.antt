@@ -3,7 +3,7 @@ use Prim.Native.Nat.{ℕ, _<_, _≤_}
 use mathlib.Core.Path.{_≡_}
 use mathlib.Core.List.{List}
 use lib.ListN.{length, getD}
-use Rattle.input_catalogue.specs.Conflict.{Conflicts}
+use Rattle.input_conflicts.specs.Conflicts.{Conflicts}
 use Rattle.long_stacks.specs.Runs.{Stacks}
 
 -- k is the first index at which no blank is counted, or 24 where there is none

@@ -1,14 +1,79 @@
 // The normal form of a long word, in time linear in its length.
+// The reduction of a long word, in time linear in its length: letter by letter from its right end.
+// The normal form of a long word, with links of its own: as many as a word of its length needs, so that a short word
+// clears little.
 
-use long_reduction::reduce;
 use long_stacks::cut;
-ghost use Prim.Native.Nat.{ℕ};
+ghost use Prim.Native.Nat.{ℕ, _+_};
 ghost use mathlib.Core.List.{List};
-ghost use Rattle.input_plan.specs.Area.{StartsWith, ReadOff};
-ghost use Rattle.input_plan.specs.Letters.{normalForm};
-ghost use Rattle.long_reduction.specs.Reducing.{Given};
+ghost use Rattle.array_row.specs.Area.{StartsWith, ReadOff};
+ghost use Rattle.spec.specs.Letters.{normalForm};
+ghost use Rattle.long_form.specs.Reducing.{Given, Reducing};
 ghost use Rattle.long_form.specs.Form.{Room};
 ghost use Rattle.long_form.specs.Reading.{FirstReady, Readable};
+use input_plan::undo;
+use long_stacks::put;
+ghost use lib.ListN.{length};
+ghost use mathlib.Core.Path.{_≡_};
+ghost use Rattle.long_form.specs.Forming.{Formable, Formed};
+
+// One letter more, at place p: it is cut off with its undo, or put on the stacks.
+fn step(
+    word: &[u8],
+    conflicts: &[[u16; 24]; 24],
+    under: &mut [u16],
+    link: &mut [u16],
+    tops: &mut [u16; 24],
+    blanks: &mut [u16; 24],
+    p: usize,
+)
+    requires { ⌜ ((c : List ℕ)
+        × Reducing c (now conflicts) (now word) (now under) (now link) (now tops) (now blanks) (p + 1)) ⌝ }
+    ensures { λ r. ⌜ ((c : List ℕ)
+        → Reducing c (now (conflicts .entry)) (now (word .entry))
+        (now (under .entry)) (now (link .entry)) (now (tops .entry)) (now (blanks .entry)) (p + 1)
+        → Reducing c (now (conflicts .entry)) (now (word .entry))
+        (now (under .exit)) (now (link .exit)) (now (tops .exit)) (now (blanks .exit)) p) ⌝ }
+{
+    let a = word[p];
+    if a == 0 {
+        return;
+    }
+    let k = (a % 128) as usize - 1;
+    let line = conflicts[k];
+    if blanks[k] == 0 {
+        if word[tops[k] as usize - 1] == undo(a) {
+            cut(under, link, tops, blanks, &line, k);
+            return;
+        }
+    }
+    put(under, link, tops, blanks, &line, p, k);
+}
+
+// Reduces the word: all its letters, the last first, on stacks that are empty.
+pub fn reduce(
+    word: &[u8],
+    conflicts: &[[u16; 24]; 24],
+    under: &mut [u16],
+    link: &mut [u16],
+    tops: &mut [u16; 24],
+    blanks: &mut [u16; 24],
+)
+    requires { ⌜ ((c : List ℕ)
+        × Reducing c (now conflicts) (now word) (now under) (now link) (now tops) (now blanks) (length (now word))) ⌝ }
+    ensures { λ r. ⌜ ((c : List ℕ)
+        → Reducing c (now (conflicts .entry)) (now (word .entry))
+        (now (under .entry)) (now (link .entry)) (now (tops .entry)) (now (blanks .entry))
+        (length (now (word .entry)))
+        → Reducing c (now (conflicts .entry)) (now (word .entry))
+        (now (under .exit)) (now (link .exit)) (now (tops .exit)) (now (blanks .exit)) 0) ⌝ }
+{
+    let mut i = word.len();
+    while 0 < i {
+        i -= 1;
+        step(word, conflicts, under, link, tops, blanks, i);
+    }
+}
 
 // The first index at which no blank is counted, or 24 where there is none.
 fn ready(blanks: &[u16; 24]) -> usize
@@ -71,4 +136,87 @@ pub fn normal_form(
     let mut blanks = [1; 24];
     reduce(word, conflicts, under, link, &mut tops, &mut blanks);
     read_off(word, conflicts, under, link, &mut tops, &mut blanks, area)
+}
+
+// Links for a word of at most 1,024 letters.
+fn links_1024() -> [u16; 1024]
+    ensures { λ r. ⌜ 1024 ≡ length r ⌝ }
+{
+    [0; 1024]
+}
+
+// Links for a word of at most 2,048 letters.
+fn links_2048() -> [u16; 2048]
+    ensures { λ r. ⌜ 2048 ≡ length r ⌝ }
+{
+    [0; 2048]
+}
+
+// Links for a word of at most 8,192 letters.
+fn links_8192() -> [u16; 8192]
+    ensures { λ r. ⌜ 8192 ≡ length r ⌝ }
+{
+    [0; 8192]
+}
+
+// Links for the longest words.
+fn links_50176() -> [u16; 50176]
+    ensures { λ r. ⌜ 50176 ≡ length r ⌝ }
+{
+    [0; 50176]
+}
+
+// The normal form of a word, with links for so many letters.
+
+fn form_1024(word: &[u8], conflicts: &[[u16; 24]; 24], area: &mut [u8]) -> usize
+    requires { ⌜ ((c : List ℕ) × Formable 1024 c (now conflicts) (now word) (now area)) ⌝ }
+    ensures { λ r. ⌜ Formed (now (conflicts .entry)) (now (word .entry)) (now (area .entry)) (now (area .exit)) r ⌝ }
+{
+    let mut under = links_1024();
+    let mut link = links_1024();
+    normal_form(word, conflicts, &mut under, &mut link, area)
+}
+
+fn form_2048(word: &[u8], conflicts: &[[u16; 24]; 24], area: &mut [u8]) -> usize
+    requires { ⌜ ((c : List ℕ) × Formable 2048 c (now conflicts) (now word) (now area)) ⌝ }
+    ensures { λ r. ⌜ Formed (now (conflicts .entry)) (now (word .entry)) (now (area .entry)) (now (area .exit)) r ⌝ }
+{
+    let mut under = links_2048();
+    let mut link = links_2048();
+    normal_form(word, conflicts, &mut under, &mut link, area)
+}
+
+fn form_8192(word: &[u8], conflicts: &[[u16; 24]; 24], area: &mut [u8]) -> usize
+    requires { ⌜ ((c : List ℕ) × Formable 8192 c (now conflicts) (now word) (now area)) ⌝ }
+    ensures { λ r. ⌜ Formed (now (conflicts .entry)) (now (word .entry)) (now (area .entry)) (now (area .exit)) r ⌝ }
+{
+    let mut under = links_8192();
+    let mut link = links_8192();
+    normal_form(word, conflicts, &mut under, &mut link, area)
+}
+
+fn form_50176(word: &[u8], conflicts: &[[u16; 24]; 24], area: &mut [u8]) -> usize
+    requires { ⌜ ((c : List ℕ) × Formable 50176 c (now conflicts) (now word) (now area)) ⌝ }
+    ensures { λ r. ⌜ Formed (now (conflicts .entry)) (now (word .entry)) (now (area .entry)) (now (area .exit)) r ⌝ }
+{
+    let mut under = links_50176();
+    let mut link = links_50176();
+    normal_form(word, conflicts, &mut under, &mut link, area)
+}
+
+// Writes the normal form of the word, of at most 50,176 letters, into the area and gives its length.
+pub fn form(word: &[u8], conflicts: &[[u16; 24]; 24], area: &mut [u8]) -> usize
+    requires { ⌜ ((c : List ℕ) × Formable 50176 c (now conflicts) (now word) (now area)) ⌝ }
+    ensures { λ r. ⌜ Formed (now (conflicts .entry)) (now (word .entry)) (now (area .entry)) (now (area .exit)) r ⌝ }
+{
+    if word.len() <= 1024 {
+        return form_1024(word, conflicts, area);
+    }
+    if word.len() <= 2048 {
+        return form_2048(word, conflicts, area);
+    }
+    if word.len() <= 8192 {
+        return form_8192(word, conflicts, area);
+    }
+    form_50176(word, conflicts, area)
 }

@@ -7,7 +7,7 @@ use lib.ListN.{length, getD, replicate}
 use Rattle.theory_words.specs.All.{All}
 use Rattle.theory_words.specs.Stack.{proj}
 use Rattle.input_plan.specs.Lettered.{Lettered}
-use Rattle.input_plan.specs.Letters.{alphabet}
+use Rattle.spec.specs.Letters.{alphabet}
 
 module _ (word under link : List ℕ) (i : ℕ) where
   -- A stack given by its top letter's place plus 1, or 0 where it has no letter, and by the number of blanks above

@@ -12,9 +12,10 @@ use Rattle.theory_words.specs.Trace.{Pick, First}
 use Rattle.theory_words.specs.TraceLaws.{pick-length}
 use Rattle.theory_words.specs.Stack.{proj, mark}
 use Rattle.theory_words.specs.StackLaws.{proj-length, proj-pick, proj-first, proj-front}
-use Rattle.input_catalogue.specs.Conflict.{conflict, bit}
-use Rattle.input_plan.specs.Byte.{commandOf}
-use Rattle.input_plan.specs.Letters.{alphabet}
+use Rattle.spec.specs.Conflict.{conflict}
+use Rattle.input_conflicts.specs.Conflicts.{bit}
+use Rattle.spec.specs.Byte.{commandOf}
+use Rattle.spec.specs.Letters.{alphabet}
 use Rattle.input_plan.specs.Lettered.{Lettered}
 use Rattle.input_plan.specs.LetteredLaws.{lettered-filler}
 use Rattle.long_stacks.specs.Runs.{Stacks}

@@ -8,35 +8,28 @@ use mathlib.Core.List.{List, [], _∷_, _++_, append-nil}
 use mathlib.Core.Option.{Option, none, some}
 use lib.ListN.{length, take, drop}
 use borrow.Author.Tests.{le-ltb}
-use Rattle.refusal.specs.Line.{Line, line, lineOf, Answer, refused, given, firstLine, orElse}
-use Rattle.refusal.specs.LineLaws.{none-left, none-right}
-use Rattle.refusal.specs.declared.Refusal.{Refusal}
+use Rattle.spec.specs.Table.{Line, line, lineOf, Answer, refused, given, firstLine, orElse}
+use Rattle.spec_laws.specs.TableLaws.{none-left, none-right}
+use Rattle.spec.specs.declared.Refusal.{Refusal}
 use Rattle.theory_conjugacy.specs.Decision.{joined?}
-use Rattle.input_catalogue.specs.Catalogue.{commands, catalogueLines}
-use Rattle.input_plan.specs.Plan.{planLines}
-use Rattle.input_plan.specs.PlanLaws.{lines-pass}
-use Rattle.input_plan.specs.Letters.{letters, alphabet}
+use Rattle.spec.specs.Catalogue.{commands, catalogueLines}
+use Rattle.spec.specs.Plan.{planLines}
+use Rattle.spec_laws.specs.PlanLaws.{lines-pass}
+use Rattle.spec.specs.Letters.{letters, alphabet}
 use Rattle.spec.specs.Answers.{toldWritten, toldLoops}
 use Rattle.spec.specs.Calls.{planLimit, areaLine, normalFormLines, coreForm, coreAnswer}
-use Rattle.spec.specs.CallLaws.{few-commands}
+use Rattle.spec_laws.specs.CallLaws.{few-commands}
 use Rattle.spec.specs.Loops.{loopsLines, leadInRoom, unsettledLine, Looped, refuses, apart, joined}
 use Rattle.spec.specs.declared.Written.{Written}
 use Rattle.spec.specs.declared.Written.the-variants as written
 use Rattle.spec.specs.declared.Loops.{Loops}
 use Rattle.spec.specs.declared.Loops.the-variants as loops
-use Rattle.loops_framing.specs.Framing.{frame}
+use Rattle.loops_framing.specs.Frame.{frame}
 use Rattle.loops_framing.specs.FramingLaws.{badly-tells, well-tells, Laid, laid-catalogue, laid-plan1, laid-plan2}
 use Rattle.loops_framing.specs.declared.Frame.{Frame}
 use Rattle.loops_framing.specs.declared.Frame.the-variants.{Badly, Well}
 use Rattle.loops_framing.specs.declared.Places.{Places}
-use Rattle.loops.specs.Program.{
-  coreLines,
-  programLines,
-  coreVerdict,
-  joined-step,
-  loopsVerdict,
-  programAnswer,
-}
+use Rattle.spec.specs.Program.{coreLines, programLines, coreVerdict, joined-step, loopsVerdict, programAnswer}
 
 -- Areas that are large enough
 

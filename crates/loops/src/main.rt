@@ -4,15 +4,15 @@
 ghost use mathlib.Core.Path.{_≡_};
 ghost use Prim.Native.Nat.{_≤_};
 ghost use lib.ListN.{length, take};
-ghost use Rattle.refusal.specs.Line.{line, lineOf};
+ghost use Rattle.spec.specs.Table.{line, lineOf};
 ghost use Rattle.io.specs.Counts.{Counts};
-ghost use Rattle.loops_listing.specs.Listing.{toldVerdict, Printed};
-ghost use Rattle.loops.specs.Program.{coreVerdict, loopsVerdict, programAnswer};
+ghost use Rattle.spec.specs.Listing.{toldVerdict, Printed};
+ghost use Rattle.spec.specs.Program.{coreVerdict, loopsVerdict, programAnswer};
 use loops_framing::Frame;
-use loops_listing::Verdict;
-use refusal::Reason;
-use refusal::Refusal;
 use spec::Loops;
+use spec::Reason;
+use spec::Refusal;
+use spec::Verdict;
 use spec::Written;
 
 // Room for the core of the longest plan.

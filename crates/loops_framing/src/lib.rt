@@ -4,7 +4,8 @@
 ghost use Prim.Native.Nat.{_+_, _<_, _≤_};
 ghost use mathlib.Core.Path.{_≡_};
 ghost use lib.ListN.{getD};
-ghost use Rattle.loops_framing.specs.Framing.{planEnd, frame};
+ghost use Rattle.spec.specs.Framing.{planEnd};
+ghost use Rattle.loops_framing.specs.Frame.{frame};
 
 // Where the counts of the two plans stand; the catalogue lies before the first.
 pub struct Places {

@@ -1,3 +1,3 @@
-pub mod Listing
+pub mod DecimalLaws
 pub mod Put
 pub mod PutLaws

@@ -2,10 +2,10 @@
 use Prim.Native.Nat.{ℕ, _≤_}
 use mathlib.Core.List.{List}
 use lib.ListN.{length}
-use Rattle.refusal.specs.Line.{refused, lineOf}
-use Rattle.refusal.specs.declared.Refusal.{Refusal}
+use Rattle.spec.specs.Table.{refused, lineOf}
+use Rattle.spec.specs.declared.Refusal.{Refusal}
 use Rattle.array_row.specs.Row.{Appended}
-use Rattle.loops_listing.specs.Listing.{Shows}
+use Rattle.spec.specs.Listing.{Shows}
 
 -- a text that P says, of at most so many bytes, now stands behind the first `at` bytes, up to `end`
 pub record Put (P : List ℕ → Type 0) (most : ℕ) (before : List ℕ) (at : ℕ) (after : List ℕ) (end : ℕ) : Type 0 where

@@ -14,11 +14,11 @@ use mir.Syntax.{w64}
 use mir.Val.{Fits}
 use Rattle.io.specs.Counts.{Counts}
 use Rattle.io.specs.Digits.{Fewest}
-use Rattle.refusal.specs.Line.{Line, Answer, given, refused}
+use Rattle.spec.specs.Table.{Line, Answer, given, refused}
 use Rattle.array_row.specs.Row.{Appended}
 use Rattle.array_row.specs.RowLaws.{appended-take, appended-length}
-use Rattle.loops_listing.specs.declared.Verdict.{Verdict}
-use Rattle.loops_listing.specs.Listing.{bytes, Decimal, Shows, joined, apart, refuses, Printed, printed, toldVerdict}
+use Rattle.spec.specs.declared.Verdict.{Verdict}
+use Rattle.spec.specs.Listing.{bytes, Decimal, Shows, joined, apart, refuses, Printed, printed, toldVerdict}
 use Rattle.loops_listing.specs.Put.{Put}
 
 pub appended-then : {before mid after x y : List ℕ} {at end last : ℕ} → Appended before at x mid end

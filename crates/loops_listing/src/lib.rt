@@ -3,16 +3,10 @@
 ghost use Prim.Native.Nat.{_+_, _≤_};
 ghost use lib.ListN.{length, take};
 ghost use Rattle.io.specs.Counts.{Counts};
-ghost use Rattle.loops_listing.specs.Listing.{Decimal, Shows, toldVerdict, Printed};
+ghost use Rattle.spec.specs.Listing.{Decimal, Shows, toldVerdict, Printed};
 ghost use Rattle.loops_listing.specs.Put.{Put, Refuses};
-use refusal::Refusal;
-
-// Two loops are joined and their core has so many letters, or they are apart, or the input is refused.
-pub enum Verdict {
-    Joined(usize),
-    Apart,
-    Refused(Refusal),
-}
+use spec::Refusal;
+use spec::Verdict;
 
 // A number in decimal, behind the first `at` bytes.
 fn put_decimal(out: &mut [u8], at: usize, n: u64) -> usize
@@ -31,7 +25,7 @@ fn put_refusal(out: &mut [u8], at: usize, refusal: Refusal) -> usize
 {
     let reason = refusal.reason;
     let word = array_row::append(out, at, b"refused ");
-    let number = put_decimal(out, word, refusal::number(reason) as u64);
+    let number = put_decimal(out, word, call_codes::number(reason) as u64);
     let gap = array_row::append(out, number, b" ");
     let plan = put_decimal(out, gap, refusal.plan as u64);
     let next = array_row::append(out, plan, b" ");

@@ -18,10 +18,10 @@ use Rattle.theory_words.specs.StackLaws.{mark-own, mark-length, proj-append, pr
 use Rattle.theory_words.specs.StackLaws.{proj-front-rest, stack-top, stack-read}
 use Rattle.theory_conjugacy.specs.Turn.{Tight}
 use Rattle.theory_conjugacy.specs.CoreLaws.{Peels, off}
-use Rattle.input_catalogue.specs.Conflict.{Conflicts}
-use Rattle.input_plan.specs.Byte.{commandOf, undone}
-use Rattle.input_plan.specs.ByteLaws.{command-undone}
-use Rattle.input_plan.specs.Letters.{alphabet}
+use Rattle.input_conflicts.specs.Conflicts.{Conflicts}
+use Rattle.spec.specs.Byte.{commandOf, undone}
+use Rattle.spec.specs.AlphabetLaws.{command-undone}
+use Rattle.spec.specs.Letters.{alphabet}
 use Rattle.input_plan.specs.Lettered.{Lettered}
 use Rattle.input_plan.specs.LetteredLaws.{lettered-filler}
 use Rattle.piling_read.specs.Reading.{lowest, beadsLeft, Left}

@@ -9,7 +9,7 @@ use borrow.Author.Count.{below-more}
 use borrow.Author.Tests.{eqb-true, eq-eqb}
 use lib.Dec.{eqb}
 use lib.ListN.{getD}
-use Rattle.input_plan.specs.Byte.{undone}
+use Rattle.spec.specs.Byte.{undone}
 use Rattle.piling_core.specs.Peeling.{Ends, Pair, FirstPair}
 
 -- where the lowest of two or more beads is a letter, the highest decides

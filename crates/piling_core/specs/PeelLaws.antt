@@ -9,8 +9,8 @@ use Rattle.theory_words.specs.TraceLaws.{~-refl}
 use Rattle.theory_words.specs.WritingLaws.{take-more, drop-more}
 use Rattle.theory_conjugacy.specs.Core.{Cores, bare}
 use Rattle.theory_conjugacy.specs.CoreLaws.{peels-length, peels-cores}
-use Rattle.input_catalogue.specs.Conflict.{Conflicts}
-use Rattle.input_plan.specs.Letters.{alphabet}
+use Rattle.input_conflicts.specs.Conflicts.{Conflicts}
+use Rattle.spec.specs.Letters.{alphabet}
 use Rattle.piling_read.specs.Reading.{lowest, Room, Left}
 use Rattle.piling_core.specs.Peeling.{FirstPair, Movable, Moved, Peelable, Peeled}
 use Rattle.piling_core.specs.EndLaws.{pair-peels, no-pair-tight, peels-movable, peels-left}

@@ -4,9 +4,9 @@ use Prim.Native.Nat.{ℕ, _+_, _-_, _*_, _<_, _≤_}
 use mathlib.Core.Path.{_≡_}
 use mathlib.Core.List.{List, []}
 use lib.ListN.{length, getD, take, drop}
-use Rattle.input_catalogue.specs.Conflict.{Conflicts}
-use Rattle.input_plan.specs.Byte.{undone}
-use Rattle.input_plan.specs.Letters.{alphabet}
+use Rattle.input_conflicts.specs.Conflicts.{Conflicts}
+use Rattle.spec.specs.Byte.{undone}
+use Rattle.spec.specs.Letters.{alphabet}
 use Rattle.theory_conjugacy.specs.Core.{Cores}
 use Rattle.array_counts.specs.Heights.{Both, Changed}
 use Rattle.piling_read.specs.Reading.{Left}

@@ -7,11 +7,11 @@ use lib.ListN.{length}
 use lib.Dec.{eqb}
 use Rattle.theory_words.specs.Group.{Reduced}
 use Rattle.theory_words.specs.Reduce.{act}
-use Rattle.input_catalogue.specs.Catalogue.{commands}
-use Rattle.input_catalogue.specs.Conflict.{Conflicts}
-use Rattle.input_plan.specs.Plan.{passes, Passing}
-use Rattle.input_plan.specs.Byte.{undone}
-use Rattle.input_plan.specs.Letters.{alphabet}
+use Rattle.spec.specs.Catalogue.{commands}
+use Rattle.input_conflicts.specs.Conflicts.{Conflicts}
+use Rattle.spec.specs.Plan.{passes, Passing}
+use Rattle.spec.specs.Byte.{undone}
+use Rattle.spec.specs.Letters.{alphabet}
 use Rattle.piling_stacks.specs.Piling.{Piled, Counted}
 
 unfoldable pub undoneBy-step : Bool → List ℕ → ℕ → List ℕ → List ℕ

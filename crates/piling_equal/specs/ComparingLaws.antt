@@ -14,13 +14,13 @@ use Rattle.theory_words.specs.Group as Group
 use Rattle.theory_words.specs.Group.{Reduced, back, empty}
 use Rattle.theory_words.specs.Reduce.{act}
 use Rattle.theory_words.specs.ReduceLaws.{put, acts, act-is, act-falls, act-rises, act-shift, act-reduced, reduced-least}
-use Rattle.input_catalogue.specs.Catalogue.{commands}
-use Rattle.input_plan.specs.Byte.{commandOf, undone}
-use Rattle.input_plan.specs.ByteLaws.{command-undone}
-use Rattle.input_plan.specs.Letters.{alphabet, letters}
-use Rattle.input_plan.specs.LettersLaws.{letters-length}
+use Rattle.spec.specs.Catalogue.{commands}
+use Rattle.spec.specs.Byte.{commandOf, undone}
+use Rattle.spec.specs.AlphabetLaws.{command-undone}
+use Rattle.spec.specs.Letters.{alphabet, letters}
+use Rattle.spec_laws.specs.LettersLaws.{letters-length}
 use Rattle.input_plan.specs.Lettered.{Lettered}
-use Rattle.input_plan.specs.PlanLaws.{passing-at}
+use Rattle.spec_laws.specs.PlanLaws.{passing-at}
 use Rattle.piling_stacks.specs.Piling.{Piled, Counted}
 use Rattle.piling_stacks.specs.Push.{Facing}
 use Rattle.piling_stacks.specs.PileLaws.{passes-range, facing-at, more-filler, more-letter}

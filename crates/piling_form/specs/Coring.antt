@@ -7,8 +7,8 @@ use lib.ListN.{length, take, drop}
 use Rattle.theory_words.specs.Trace.{_~_}
 use Rattle.theory_words.specs.Reduce.{reduce}
 use Rattle.theory_conjugacy.specs.Core as Core
-use Rattle.input_plan.specs.Area.{StartsWith}
-use Rattle.input_plan.specs.Letters.{letters, alphabet, normalForm}
+use Rattle.array_row.specs.Area.{StartsWith}
+use Rattle.spec.specs.Letters.{letters, alphabet, normalForm}
 use Rattle.piling_read.specs.Reading.{Left}
 use Rattle.piling_core.specs.Peeling.{Peeled}
 use Rattle.spec.specs.Calls.{coreForm}

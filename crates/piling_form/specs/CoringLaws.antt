@@ -11,16 +11,16 @@ use Rattle.theory_words.specs.Reduce.{reduce}
 use Rattle.theory_words.specs.TraceLaws.{~-length}
 use Rattle.theory_words.specs.Normal.{lex}
 use Rattle.theory_words.specs.NormalLaws.{lex-~, lex-sorts, sorts-nf}
-use Rattle.input_plan.specs.Area.{StartsWith, ReadOff}
-use Rattle.input_plan.specs.Letters.{letters, alphabet, normalForm}
+use Rattle.array_row.specs.Area.{StartsWith, ReadOff}
+use Rattle.spec.specs.Letters.{letters, alphabet, normalForm}
 use Rattle.array_counts.specs.Blank.{blankHeights}
 use Rattle.piling_stacks.specs.Piling.{Piled}
 use Rattle.piling_stacks.specs.Pile.{reduced}
 use Rattle.piling_read.specs.Reading.{Readable}
 use Rattle.piling_core.specs.Peeling.{Peelable, Peeled}
 use Rattle.piling_core.specs.PeeledLaws.{piled-peelable, peeled-core, peeled-normal}
-use Rattle.engine.specs.Passed.{Passed}
-use Rattle.engine.specs.EngineLaws.{passed-lettered, reduced-length, reduced-word}
+use Rattle.input_checks.specs.Passed.{Passed}
+use Rattle.piling_equal.specs.EngineLaws.{passed-lettered, reduced-length, reduced-word}
 use Rattle.spec.specs.Calls.{coreForm}
 use Rattle.piling_form.specs.Coring.{form, Remains, peeled, whole, CoreOf, FormOf, core, normal}
 

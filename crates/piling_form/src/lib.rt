@@ -5,8 +5,8 @@ ghost use Prim.Native.Nat.{ℕ, _≤_};
 ghost use mathlib.Core.Path.{_≡_};
 ghost use mathlib.Core.List.{List};
 ghost use lib.ListN.{length};
-ghost use Rattle.input_plan.specs.Area.{StartsWith};
-ghost use Rattle.engine.specs.Passed.{Passed};
+ghost use Rattle.array_row.specs.Area.{StartsWith};
+ghost use Rattle.input_checks.specs.Passed.{Passed};
 ghost use Rattle.piling_core.specs.Peeling.{Peelable};
 ghost use Rattle.piling_form.specs.Coring.{form, Room, Remains, FormOf};
 

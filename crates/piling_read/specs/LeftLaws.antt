@@ -14,10 +14,11 @@ use Rattle.theory_words.specs.Trace.{Pick, First}
 use Rattle.theory_words.specs.TraceLaws.{first-none}
 use Rattle.theory_words.specs.Stack.{mark, mark-step, proj}
 use Rattle.theory_words.specs.StackLaws.{proj-pick, proj-first, proj-front}
-use Rattle.input_catalogue.specs.Conflict.{conflict, bit, Conflicts}
-use Rattle.input_catalogue.specs.ConflictLaws.{conflict-sym}
-use Rattle.input_plan.specs.Byte.{commandOf}
-use Rattle.input_plan.specs.Letters.{alphabet}
+use Rattle.spec.specs.Conflict.{conflict}
+use Rattle.input_conflicts.specs.Conflicts.{bit, Conflicts}
+use Rattle.spec.specs.AlphabetLaws.{conflict-sym}
+use Rattle.spec.specs.Byte.{commandOf}
+use Rattle.spec.specs.Letters.{alphabet}
 use Rattle.input_plan.specs.Lettered.{Lettered}
 use Rattle.input_plan.specs.LetteredLaws.{lettered-filler}
 use Rattle.array_counts.specs.Heights.{Both, Changed}

@@ -7,7 +7,7 @@ use lib.ListN.{getD}
 use lib.Seq.{slice}
 use Rattle.theory_words.specs.All.{All, all-reverse}
 use Rattle.theory_words.specs.StackLaws.{stack-read}
-use Rattle.input_plan.specs.Letters.{alphabet}
+use Rattle.spec.specs.Letters.{alphabet}
 use Rattle.input_plan.specs.Lettered.{Lettered}
 use Rattle.array_counts.specs.Blank.{blankHeights}
 use Rattle.array_counts.specs.BeadsLaws.{beads-fit}

@@ -10,11 +10,11 @@ use Rattle.theory_words.specs.NormalLaws.{lex-pick}
 use Rattle.theory_words.specs.WritingLaws.{take-more, drop-more}
 use Rattle.theory_words.specs.Trace.{First}
 use Rattle.theory_words.specs.TraceLaws.{pick-length}
-use Rattle.input_catalogue.specs.Conflict.{Conflicts}
+use Rattle.input_conflicts.specs.Conflicts.{Conflicts}
 use Rattle.array_counts.specs.Heights.{Both, Changed}
-use Rattle.input_plan.specs.Area.{ReadOff}
-use Rattle.input_plan.specs.Byte.{commandOf}
-use Rattle.input_plan.specs.Letters.{alphabet}
+use Rattle.array_row.specs.Area.{ReadOff}
+use Rattle.spec.specs.Byte.{commandOf}
+use Rattle.spec.specs.Letters.{alphabet}
 use Rattle.piling_read.specs.Reading.{lowest, Room, Passed, FirstReady, Left, Readable}
 use Rattle.piling_read.specs.Starts.{Starts}
 use Rattle.piling_read.specs.StartsLaws.{start-passed}

@@ -7,8 +7,9 @@ use native.Mathlib.Omega.{arith}
 use native.Mathlib.Decide.{decLt}
 use lib.Bits.{and-le-l, and-le-r}
 use lib.ListN.{length, getD}
-use Rattle.input_catalogue.specs.Conflict.{conflict, bit, Conflicts}
-use Rattle.input_catalogue.specs.ConflictLaws.{conflict-refl, conflict-sym}
+use Rattle.spec.specs.Conflict.{conflict}
+use Rattle.input_conflicts.specs.Conflicts.{bit, Conflicts}
+use Rattle.spec.specs.AlphabetLaws.{conflict-refl, conflict-sym}
 use Rattle.array_counts.specs.Blank.{blankHeights}
 use Rattle.array_counts.specs.Heights.{Both, Changed}
 use Rattle.piling_read.specs.Reading.{Passed, FirstReady}

@@ -2,8 +2,8 @@
 
 ghost use Prim.Native.Nat.{ℕ, _≤_};
 ghost use mathlib.Core.List.{List};
-ghost use Rattle.input_catalogue.specs.Conflict.{Conflicts};
-ghost use Rattle.input_plan.specs.Area.{ReadOff};
+ghost use Rattle.input_conflicts.specs.Conflicts.{Conflicts};
+ghost use Rattle.array_row.specs.Area.{ReadOff};
 ghost use Rattle.array_counts.specs.Heights.{Both, Changed};
 ghost use Rattle.piling_read.specs.Reading.{Room, Passed, FirstReady, Readable};
 ghost use Rattle.piling_read.specs.Starts.{Ones, without, Starts};

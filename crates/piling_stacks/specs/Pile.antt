@@ -3,10 +3,10 @@ use Prim.Native.Nat.{ℕ, _≤_}
 use mathlib.Core.List.{List, [], reverse}
 use lib.ListN.{length}
 use Rattle.theory_words.specs.Reduce.{reduce}
-use Rattle.input_catalogue.specs.Catalogue.{commands}
-use Rattle.input_catalogue.specs.Conflict.{Conflicts}
-use Rattle.input_plan.specs.Plan.{Passing}
-use Rattle.input_plan.specs.Letters.{alphabet, letters}
+use Rattle.spec.specs.Catalogue.{commands}
+use Rattle.input_conflicts.specs.Conflicts.{Conflicts}
+use Rattle.spec.specs.Plan.{Passing}
+use Rattle.spec.specs.Letters.{alphabet, letters}
 use Rattle.piling_stacks.specs.Piling.{Piled}
 
 -- a plan that passes under catalogue c, the conflicts of c, and a piling with no bead

@@ -11,15 +11,15 @@ use borrow.Author.Tests.{eq-eqb, ne-eqb}
 use Rattle.theory_words.specs.Reduce.{act, reduce}
 use Rattle.theory_words.specs.ReduceLaws.{reduce-least}
 use Rattle.theory_words.specs.GroupLaws.{≈-refl}
-use Rattle.input_catalogue.specs.Catalogue.{commands}
-use Rattle.input_catalogue.specs.Conflict.{Conflicts}
-use Rattle.input_plan.specs.Plan.{passes}
-use Rattle.input_plan.specs.Byte.{commandOf}
-use Rattle.input_plan.specs.Letters.{alphabet, letters}
+use Rattle.spec.specs.Catalogue.{commands}
+use Rattle.input_conflicts.specs.Conflicts.{Conflicts}
+use Rattle.spec.specs.Plan.{passes}
+use Rattle.spec.specs.Byte.{commandOf}
+use Rattle.spec.specs.Letters.{alphabet, letters}
 use Rattle.input_plan.specs.Lettered.{Lettered}
-use Rattle.input_plan.specs.PlanLaws.{passing-at}
-use Rattle.input_plan.specs.CommandLaws.{passes-command, command-range}
-use Rattle.input_plan.specs.LettersLaws.{letters-append, letters-filler, letters-letter, letters-length}
+use Rattle.spec_laws.specs.PlanLaws.{passing-at}
+use Rattle.spec_laws.specs.CommandLaws.{passes-command, command-range}
+use Rattle.spec_laws.specs.LettersLaws.{letters-append, letters-filler, letters-letter, letters-length}
 use Rattle.piling_stacks.specs.Piling.{Piled, Counted}
 use Rattle.piling_stacks.specs.Push.{Facing, Ready}
 use Rattle.piling_stacks.specs.Pile.{Given, reduced}

@@ -6,7 +6,7 @@ use mathlib.Core.Path.{_≡_}
 use mathlib.Core.List.{List, [], reverse}
 use lib.ListN.{length, getD, take}
 use Rattle.theory_words.specs.Stack.{proj}
-use Rattle.input_plan.specs.Letters.{alphabet}
+use Rattle.spec.specs.Letters.{alphabet}
 
 pub record Shape (rows : List (List ℕ)) (heights : List ℕ) : Type 0 where
   pub tall : length rows ≡ 24

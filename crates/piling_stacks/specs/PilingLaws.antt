@@ -11,9 +11,9 @@ use Rattle.theory_words.specs.ReduceLaws.{cut, put, act-is, act-falls}
 use Rattle.theory_words.specs.Stack.{proj, mark}
 use Rattle.theory_words.specs.StackLaws.{proj-length}
 use Rattle.theory_words.specs.StackLaws.{stack-push, stack-pick, stack-first, stack-top}
-use Rattle.input_plan.specs.Byte.{commandOf, undone}
-use Rattle.input_plan.specs.ByteLaws.{command-undone}
-use Rattle.input_plan.specs.Letters.{alphabet}
+use Rattle.spec.specs.Byte.{commandOf, undone}
+use Rattle.spec.specs.AlphabetLaws.{command-undone}
+use Rattle.spec.specs.Letters.{alphabet}
 use Rattle.piling_stacks.specs.Piling.{Piled, Counted}
 use Rattle.array_counts.specs.Heights.{Both, Changed}
 use Rattle.array_counts.specs.BeadsLaws.{Beads, Meets, written, beads-split, beads-top, meets-add, meets-off}

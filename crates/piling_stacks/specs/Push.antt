@@ -6,9 +6,10 @@ use mathlib.Core.List.{List}
 use lib.ListN.{length, getD}
 use Rattle.theory_words.specs.Trace.{First}
 use Rattle.theory_words.specs.Reduce.{act}
-use Rattle.input_catalogue.specs.Conflict.{conflict, bit}
-use Rattle.input_plan.specs.Byte.{commandOf, undone}
-use Rattle.input_plan.specs.Letters.{alphabet}
+use Rattle.spec.specs.Conflict.{conflict}
+use Rattle.input_conflicts.specs.Conflicts.{bit}
+use Rattle.spec.specs.Byte.{commandOf, undone}
+use Rattle.spec.specs.Letters.{alphabet}
 use Rattle.piling_stacks.specs.Piling.{Piled}
 
 -- a piling of z under catalogue c, a letter of command k + 1, and that command's line of conflicts

@@ -2,7 +2,7 @@
 use Prim.Native.Nat.{ℕ}
 use mathlib.Core.Bool.{Bool, true, false}
 use mathlib.Core.Option.{Option, none, some}
-use Rattle.refusal.specs.Line.{Answer, refused, given, lineOf}
+use Rattle.spec.specs.Table.{Answer, refused, given, lineOf}
 use Rattle.spec.specs.declared.Written.{Written}
 use Rattle.spec.specs.declared.Written.the-variants as written
 use Rattle.spec.specs.declared.Equality.{Equality}

@@ -6,12 +6,12 @@ use mathlib.Core.List.{List, [], _∷_, _++_}
 use mathlib.Core.Option.{Option, none, some}
 use lib.ListN.{length, drop}
 use lib.Dec.{ltb, eqb}
-use Rattle.refusal.specs.Line.{Line, line, holds, firstLine, Answer, orElse}
+use Rattle.spec.specs.Table.{Line, line, holds, firstLine, Answer, orElse}
 use Rattle.theory_words.specs.Normal.{nf}
 use Rattle.theory_conjugacy.specs.Core.{core}
-use Rattle.input_catalogue.specs.Catalogue.{commands, catalogueLines}
-use Rattle.input_plan.specs.Plan.{planLines}
-use Rattle.input_plan.specs.Letters.{letters, alphabet, normalForm}
+use Rattle.spec.specs.Catalogue.{commands, catalogueLines}
+use Rattle.spec.specs.Plan.{planLines}
+use Rattle.spec.specs.Letters.{letters, alphabet, normalForm}
 
 -- the normal form of the core of a plan
 unfoldable pub coreForm : List ℕ → List ℕ → List ℕ

@@ -1,53 +1,14 @@
--- Document 01's starred bench cases as one table, and the sentence that the definitions of the calls yield each row.
+-- Document 01's starred bench cases as one table, and the sentence that the definitions of the calls yield each row; the
+-- crate spec_laws proves it (CasesHold).
 use Prim.Native.Nat.{ℕ}
-use mathlib.Core.Path.{_≡_, refl}
+use mathlib.Core.Path.{_≡_}
 use mathlib.Core.Bool.{true, false}
 use mathlib.Core.List.{List, [], _∷_, _++_}
-use native.Mathlib.Decide.{ℕ-discrete}
 use lib.ListN.{length, drop}
-use Rattle.refusal.specs.Line.{Answer, given}
-use Rattle.refusal.specs.Search.{firstOf}
-use Rattle.theory_words.specs.Reduce.{without-step, without, act-step, act, reduce}
-use Rattle.theory_words.specs.Normal.{meets-step, meets, firsts-step, firsts, least-step, least, rest, lex-step, lex, nf}
-use Rattle.theory_words.specs.Group.{undo}
-use Rattle.theory_conjugacy.specs.Core as Core
-use Rattle.theory_conjugacy.specs.Core.{without-last, between, pair-step, pair, peels-step, peels, core}
-use Rattle.theory_conjugacy.specs.Part.{
-  insert-step,
-  insert,
-  chosen-step,
-  chosen,
-  relabel-step,
-  relabel,
-  merge-step,
-  merge,
-  merge-row,
-  merge-all,
-  labels,
-  label,
-  apexes,
-  share,
-  part,
-}
-use Rattle.theory_conjugacy.specs.Part as Part
-use Rattle.theory_conjugacy.specs.Filter.{filter-step, filter}
-use Rattle.theory_conjugacy.specs.Settle.{hit, raise, put, split, settled-step, settled, ring}
-use Rattle.theory_conjugacy.specs.Rotation.{agree-step, agree, search-step, search, rotation}
-use Rattle.theory_conjugacy.specs.Decision.{alike?, found?, settled-ring, part-ring, rotated?, parts-joined?}
-use Rattle.theory_conjugacy.specs.Decision.{cores-joined?, joined?}
-use Rattle.input_catalogue.specs.Catalogue.{ends, follow, stands}
-use Rattle.input_catalogue.specs.Conflict.{conflict}
-use Rattle.input_plan.specs.Plan.{isCommand, passes}
-use Rattle.input_plan.specs.Byte.{undone}
-use Rattle.input_plan.specs.Letters.{letters-step, letters, alphabet, normalForm}
-use Rattle.spec.specs.Calls.{
-  normalFormAnswer,
-  normalFormArea,
-  coreForm,
-  coreAnswer,
-  coreArea,
-  equalAnswer,
-}
+use Rattle.theory_conjugacy.specs.Decision.{joined?}
+use Rattle.spec.specs.Table.{Answer, given}
+use Rattle.spec.specs.Letters.{letters, alphabet}
+use Rattle.spec.specs.Calls.{normalFormAnswer, normalFormArea, coreAnswer, coreArea, equalAnswer}
 use Rattle.spec.specs.Loops.{checkAnswer, checkArea0, checkArea1}
 
 -- catalogue K: conflicts 1-2, 2-3, 3-4
@@ -116,35 +77,6 @@ starred =
     ∷ cored (3 ∷ 1 ∷ 2 ∷ undo3 ∷ undo1 ∷ []) (2 ∷ [])
     ∷ []
 
-pub starred-hold : Every starred
-unfolding firstOf without-step without act-step act reduce meets-step meets firsts-step firsts least-step least rest
-    lex-step lex nf ends follow stands conflict isCommand passes undone letters-step letters normalForm ℕ-discrete
-    Core.undone without-last between pair-step pair peels-step peels core undo coreForm insert-step insert chosen-step
-    chosen relabel-step relabel merge-step Part.commands merge merge-row merge-all labels label apexes share part hit
-    raise put split settled-step settled ring agree-step agree search-step search rotation alike? found? settled-ring
-    part-ring rotated? parts-joined? cores-joined? joined? filter-step filter
-starred-hold = (
-  (refl, refl),
-  (
-    (refl, refl),
-    (
-      (refl, refl),
-      (
-        (refl, refl),
-        (
-          (refl, refl),
-          (
-            (refl, refl),
-            (
-              (refl, refl),
-              (
-                (refl, refl),
-                (refl, ((refl, refl, refl, refl), ((refl, refl, refl, refl), (refl, (refl, ((refl, refl), tt)))))),
-              ),
-            ),
-          ),
-        ),
-      ),
-    ),
-  ),
-)
+-- the sentence: every row of the table is what the definitions yield
+abbrev pub StarredCases : Type 0
+StarredCases = Every starred

@@ -6,7 +6,7 @@ use mathlib.Core.Bool.{Bool, true, false}
 use mathlib.Core.List.{List}
 use mathlib.Core.Option.{Option, none, some}
 use lib.IntN.{ℤ, pos, negℤ}
-use Rattle.refusal.specs.Line.{Answer, refused, given}
+use Rattle.spec.specs.Table.{Answer, refused, given}
 use Rattle.spec.specs.Answers.{Checked}
 use Rattle.spec.specs.Loops.{Looped}
 

@@ -1,178 +1,63 @@
--- What was bought: the demands, as theorems over the definitions that the calls' contracts cite (Calls.antt). Each
--- call's contract says that the call, on any bytes, answers what its definition says and leaves its area as its
--- definition says.
+-- What was bought: the demands, as statements without proofs. The contract of each call says that the call, on any
+-- bytes, answers what its definition says (Calls, Loops) and leaves its areas as its definition says; here stands what
+-- that is worth, over steps (Step), their order (Order) and lead-ins (Join) alone. The crate spec_laws proves each
+-- demand as one value (DemandsMet), the crate loops_framing that of the program's input.
 use Prim.Native.Nat.{ℕ, _≤_}
-use mathlib.Core.Path.{_≡_, refl, sym, _∙_, ap}
+use mathlib.Core.Path.{_≡_}
 use mathlib.Core.Bool.{Bool, true}
-use mathlib.Core.List.{List, [], _∷_, _++_}
+use mathlib.Core.List.{List}
 use mathlib.Core.Option.{Option, none, some}
 use mathlib.Core.Logic.{_↔_, _⊎_}
-use native.Mathlib.Omega.{arith}
 use lib.ListN.{length, take, drop}
-use lib.Seq.{take-at, take-append-seam, drop-append-seam}
-use Rattle.refusal.specs.Line.{Line, refused, given, firstLine, orElse}
-use Rattle.refusal.specs.LineLaws.{NoneHolds, FirstHolds, none-holds, first-holds, none-left, none-right}
-use Rattle.input_catalogue.specs.Catalogue.{commands, catalogueLines}
-use Rattle.theory_words.specs.All.{all-append}
-use Rattle.input_plan.specs.Plan.{passes, planLines, Passing}
-use Rattle.input_plan.specs.PlanLaws.{lines-pass}
-use Rattle.input_plan.specs.Letters.{normalForm}
-use Rattle.input_plan.specs.NormalFormLaws.{normal-equal, normal-least, normal-first, equal-normal}
-use Rattle.input_plan.specs.Step.{Equal}
-use Rattle.input_plan.specs.Order.{Earlier}
-use Rattle.spec.specs.Calls.{
-  planLimit,
-  areaLine,
-  areaAfter,
-  normalFormLines,
-  normalFormAnswer,
-  normalFormArea,
-  equalLines,
-  equalAnswer,
-  sameBytes,
-}
+use Rattle.spec.specs.Table.{Line, refused, given, firstLine, orElse, NoneHolds, FirstHolds}
+use Rattle.spec.specs.Step.{Equal}
+use Rattle.spec.specs.Order.{Earlier}
+use Rattle.spec.specs.Join.{Joins}
 use Rattle.spec.specs.Answers.{Checked}
-use Rattle.spec.specs.Loops.{Looped, apart, joined, LeadIn, checkLines, checkAnswer}
-use Rattle.spec.specs.LoopLaws.{loops-pass, none-joins, none-some, check-pass}
-use Rattle.input_plan.specs.Join.{Joins}
-use Rattle.input_plan.specs.JoinLaws.{joins-check}
-use Rattle.spec.specs.CallLaws.{answer-refused, answer-given, few-commands, same-bytes}
+use Rattle.spec.specs.Calls.{areaAfter, normalFormAnswer, normalFormArea, equalAnswer}
+use Rattle.spec.specs.Loops.{Looped, LeadIn, checkAnswer}
+use Rattle.spec.specs.Framing.{Framed, wellFramed, catalogueOf, plan1Of, plan2Of}
 
--- Demand 1. A call is refused exactly by the first line of its table that holds, and gives a result exactly if none
--- does; a refusal leaves the area as it was.
+-- Demand 1. A call with the lines ls and the result a is refused exactly by the first line that holds, and gives its
+-- result exactly if none does; a refusal leaves an area as it was.
+pub record Demand1 : Type 1 where
+  pub refused-exactly : {A : Type 0} (ls : List (Option Line)) (a : A) (l : Line)
+      → (orElse (firstLine ls) a ≡ refused l) ↔ FirstHolds l ls
+  pub given-exactly : {A : Type 0} (ls : List (Option Line)) (a : A) → (orElse (firstLine ls) a ≡ given a) ↔ NoneHolds ls
+  pub untouched : (ls : List (Option Line)) (bytes area : List ℕ) {l : Line} → FirstHolds l ls
+      → areaAfter (firstLine ls) bytes area ≡ area
 
-pub refused-exactly : {A : Type 0} (ls : List (Option Line)) (a : A) (l : Line)
-    → (orElse (firstLine ls) a ≡ refused l) ↔ FirstHolds l ls
-refused-exactly ls a l = (
-  λ e. first-holds ls l .0 (answer-refused (firstLine ls) a l .0 e),
-  λ f. answer-refused (firstLine ls) a l .1 (first-holds ls l .1 f),
-)
-
-pub given-exactly : {A : Type 0} (ls : List (Option Line)) (a : A) → (orElse (firstLine ls) a ≡ given a) ↔ NoneHolds ls
-given-exactly ls a = (
-  λ e. none-holds ls .0 (answer-given (firstLine ls) a a e .0),
-  λ n. rw (none-holds ls .1 n),
-)
-
-pub refused-untouched : (ls : List (Option Line)) (bytes area : List ℕ) {l : Line} → FirstHolds l ls
-    → areaAfter (firstLine ls) bytes area ≡ area
-refused-untouched ls bytes area {l} f = rw (first-holds ls l .1 f)
-
--- Demand 2, equal: an answer that is no refusal is yes exactly if a chain of steps joins the two plans.
-
-pub equal-demand : (c v w : List ℕ) (b : Bool) → equalAnswer c v w ≡ given b → (b ≡ true) ↔ Equal c v w
-equal-demand c v w b e = (
-  λ t. same .1 (same-bytes (normalForm c v) (normalForm c w) .0 (told .1 ∙ t)),
-  λ q. sym (told .1) ∙ same-bytes (normalForm c v) (normalForm c w) .1 (same .0 q),
-)
-  where
-    told : (firstLine (equalLines c v w) ≡ none) × (sameBytes (normalForm c v) (normalForm c w) ≡ b)
-    told = answer-given (firstLine (equalLines c v w)) (sameBytes (normalForm c v) (normalForm c w)) b e
-
-    same : (Equal c v w) ↔ (normalForm c v ≡ normalForm c w)
-    same =
-        let ps : List (Option Line) = catalogueLines c ++ planLines 1 planLimit (commands c) v in
-        let q : firstLine (planLines 2 planLimit (commands c) w) ≡ none =
-        none-right ps (planLines 2 planLimit (commands c) w) (told .0) in
-        let p : firstLine (planLines 1 planLimit (commands c) v) ≡ none =
-        none-right (catalogueLines c) (planLines 1 planLimit (commands c) v)
-        (none-left ps (planLines 2 planLimit (commands c) w) (told .0)) in
-        equal-normal c v w (lines-pass 1 planLimit (commands c) v .0 p .1)
-        (lines-pass 2 planLimit (commands c) w .0 q .1)
-
--- Demand 2, normal form: of a plan that is not refused, the first L bytes of the area are a plan that is equal to it,
--- no longer than any equal plan, and the first of the equal plans of that length.
-
+-- z has the effect of v, is no longer than any plan that has it, and is the first of those of its length
 pub record Shortest (c v z : List ℕ) : Type 0 where
   pub equal : Equal c z v
   pub least : (x : List ℕ) → Equal c x v → length z ≤ length x
   pub first : (x : List ℕ) → Equal c x v → length x ≡ length z → (x ≡ z) ⊎ Earlier z x
 
-pub normal-form-demand : (c v area : List ℕ) (l : ℕ) → normalFormAnswer c v area ≡ given l
-    → (length (take l (normalFormArea c v area)) ≡ l) × Shortest c v (take l (normalFormArea c v area))
-normal-form-demand c v area l e =
-    let z : take l (normalFormArea c v area) ≡ normalForm c v =
-    rw (told .0) (take-at (normalForm c v) (drop (length (normalForm c v)) area) l (told .1)) in
-    rw z (
-      told .1,
-      record {
-        equal = normal-equal c v passing;
-        least = λ x q. normal-least c x v q;
-        first = λ x q. normal-first c x v few q;
-      },
-    )
-  where
-    told : (firstLine (normalFormLines c v area) ≡ none) × (length (normalForm c v) ≡ l)
-    told = answer-given (firstLine (normalFormLines c v area)) (length (normalForm c v)) l e
+-- Demand 2. Two plans that are not refused are called equal exactly if a chain of steps joins them. Of a plan that is
+-- not refused, the first L bytes of the area are the shortest equal plan and, of those, the first in the order.
+pub record Demand2 : Type 0 where
+  pub equal : (c v w : List ℕ) (b : Bool) → equalAnswer c v w ≡ given b → (b ≡ true) ↔ Equal c v w
+  pub normal-form : (c v area : List ℕ) (l : ℕ) → normalFormAnswer c v area ≡ given l
+      → (length (take l (normalFormArea c v area)) ≡ l) × Shortest c v (take l (normalFormArea c v area))
 
-    early : firstLine (catalogueLines c ++ planLines 1 planLimit (commands c) v) ≡ none
-    early =
-        none-left (catalogueLines c ++ planLines 1 planLimit (commands c) v) (areaLine 0 (length v) area ∷ []) (told .0)
-
-    passing : Passing (commands c) v
-    passing =
-        lines-pass 1 planLimit (commands c) v
-        .0 (none-right (catalogueLines c) (planLines 1 planLimit (commands c) v) early)
-        .1
-
-    few : commands c ≤ 127
-    few = omega (arith, few-commands c (none-left (catalogueLines c) (planLines 1 planLimit (commands c) v) early))
-
--- Demand 3, loops: an answer that is no refusal says joined exactly if some plan u of any length joins v to w, and
--- apart exactly if none does. With each joined pair comes one such u: it is a normal form, has at most N(n + m)
--- letters, and fills the first L bytes of the area.
-
-pub record Loops (c v w : List ℕ) (o : Option ℕ) : Type 0 where
+-- an answer o to two loops is exact: a length says that some plan u of any length joins them, nothing that none does
+pub record Exact (c v w : List ℕ) (o : Option ℕ) : Type 0 where
   pub joined : ((l : ℕ) × (o ≡ some l)) ↔ ((u : List ℕ) × Joins c v w u)
   pub apart : (o ≡ none) ↔ ((u : List ℕ) → ¬ Joins c v w u)
 
-pub loops-demand : {c v w area after : List ℕ} {o : Option ℕ} → Looped c v w area (given o) after → Loops c v w o
-loops-demand {c} {v} {w} {area} (apart e d) =
-    let no : (u : List ℕ) → ¬ Joins c v w u = none-joins c v w (loops-pass c v w area e) d in
-    record {
-      joined = (λ h. absurd (none-some (h .1)), λ h. absurd (no (h .0) (h .1)));
-      apart = (λ h. no, λ h. refl);
-    }
-loops-demand (joined {u = u} e d l) =
-    record {
-      joined = (λ h. (u, l .joins), λ h. (length u, refl));
-      apart = (λ h. absurd (none-some (sym h)), λ h. absurd (h u (l .joins)));
-    }
+-- Demand 3. A loops call that is not refused answers exactly. With each joined pair comes a lead-in: it joins v to w, is
+-- a normal form, has at most N(n + m) letters and fills the first L bytes of the area, which past them is as it was. A
+-- lead-in check that is not refused says yes exactly if u joins v to w.
+pub record Demand3 : Type 0 where
+  pub loops : {c v w area after : List ℕ} {o : Option ℕ} → Looped c v w area (given o) after → Exact c v w o
+  pub lead-in : {c v w area after : List ℕ} {l : ℕ} → Looped c v w area (given (some l)) after
+      → (length (take l after) ≡ l) × LeadIn c v w (take l after) × (drop l after ≡ drop l area)
+  pub check : (c v w u area0 area1 : List ℕ) (k : Checked) → checkAnswer c v w u area0 area1 ≡ given k
+      → (k .yes ≡ true) ↔ Joins c v w u
 
-pub lead-in-demand : {c v w area after : List ℕ} {l : ℕ} → Looped c v w area (given (some l)) after
-    → (length (take l after) ≡ l) × LeadIn c v w (take l after) × (drop l after ≡ drop l area)
-lead-in-demand {area = area} (joined {u = u} e d l) =
-    rw (take-append-seam u (drop (length u) area), drop-append-seam u (drop (length u) area)) (refl, l, refl)
-
--- The lead-in check: an answer that is no refusal is yes exactly if u joins v to w.
-
-pub check-demand : (c v w u area0 area1 : List ℕ) (k : Checked) → checkAnswer c v w u area0 area1 ≡ given k
-    → (k .yes ≡ true) ↔ Joins c v w u
-check-demand c v w u area0 area1 k e = (
-  λ t. joins .1 (equal .1 (same-bytes vu uw .0 (ap (λ x. x .yes) (told .1) ∙ t))),
-  λ j. sym (ap (λ x. x .yes) (told .1)) ∙ same-bytes vu uw .1 (equal .0 (joins .0 j)),
-)
-  where
-    vu : List ℕ
-    vu = normalForm c (v ++ u)
-
-    uw : List ℕ
-    uw = normalForm c (u ++ w)
-
-    result : Checked
-    result = record { yes = sameBytes vu uw; vu = length vu; uw = length uw }
-
-    told : (firstLine (checkLines c v w u area0 area1) ≡ none) × (result ≡ k)
-    told = answer-given (firstLine (checkLines c v w u area0 area1)) result k e
-
-    pass : (Passing (commands c) v × Passing (commands c) w) × Passing (commands c) u
-    pass = check-pass c v w u area0 area1 (told .0)
-
-    joins : (Joins c v w u) ↔ (Equal c (v ++ u) (u ++ w))
-    joins = joins-check c v w u (pass .0 .0) (pass .0 .1) (pass .1)
-
-    equal : (Equal c (v ++ u) (u ++ w)) ↔ (vu ≡ uw)
-    equal =
-        equal-normal c (v ++ u) (u ++ w)
-        (all-append (λ b. passes (commands c) b ≡ true) v u (pass .0 .0) (pass .1))
-        (all-append (λ b. passes (commands c) b ≡ true) u w (pass .1) (pass .0 .1))
+-- The program's input is computed to be well framed exactly if it is some catalogue and two plans, well framed, and then
+-- those are the parts that are computed.
+pub record FramingDemand : Type 0 where
+  pub parts : (s : List ℕ) → wellFramed s ≡ true → Framed s (catalogueOf s) (plan1Of s) (plan2Of s)
+  pub whole : {s c v w : List ℕ} → Framed s c v w
+      → (wellFramed s ≡ true) × (c ≡ catalogueOf s) × (v ≡ plan1Of s) × (w ≡ plan2Of s)

@@ -1,9 +1,20 @@
+-- What a reader must believe, in the order to read it.
+pub mod Table
+pub mod Catalogue
+pub mod Conflict
+pub mod Plan
+pub mod Byte
+pub mod Step
+pub mod Order
+pub mod Join
+pub mod AlphabetLaws
+pub mod Letters
 pub mod Answers
 pub mod Calls
-pub mod Cases
-pub mod CallLaws
-pub mod Demands
 pub mod Loops
-pub mod LoopLaws
 pub mod Codes
-pub mod CodeLaws
+pub mod Framing
+pub mod Listing
+pub mod Program
+pub mod Cases
+pub mod Demands

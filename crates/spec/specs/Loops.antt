@@ -6,15 +6,15 @@ use mathlib.Core.Bool.{Bool, true, false}
 use mathlib.Core.List.{List, [], _∷_, _++_}
 use mathlib.Core.Option.{Option, none, some}
 use lib.ListN.{length, drop}
-use Rattle.refusal.specs.Line.{Line, line, holds, firstLine, Answer, refused, given, orElse}
+use Rattle.spec.specs.Table.{Line, line, holds, firstLine, Answer, refused, given, orElse}
 use Rattle.theory_conjugacy.specs.Core.{core}
 use Rattle.theory_conjugacy.specs.Part.{apexes, part}
 use Rattle.theory_conjugacy.specs.Settle.{split, settled}
 use Rattle.theory_conjugacy.specs.Decision.{joined?}
-use Rattle.input_catalogue.specs.Catalogue.{commands, catalogueLines}
-use Rattle.input_plan.specs.Plan.{planLines}
-use Rattle.input_plan.specs.Letters.{letters, alphabet, normalForm}
-use Rattle.input_plan.specs.Join.{Joins}
+use Rattle.spec.specs.Catalogue.{commands, catalogueLines}
+use Rattle.spec.specs.Plan.{planLines}
+use Rattle.spec.specs.Letters.{letters, alphabet, normalForm}
+use Rattle.spec.specs.Join.{Joins}
 use Rattle.spec.specs.Calls.{planLimit, areaLine, areaAfter, sameBytes}
 use Rattle.spec.specs.Answers.{Checked}
 

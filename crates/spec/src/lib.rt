@@ -1,8 +1,27 @@
-// What the calls answer: the types of their answers. specs/Calls.antt and specs/Loops.antt define each call's answer
-// and the bytes it leaves, specs/Demands.antt shows what that is worth, specs/Cases.antt holds document 01's starred
-// cases.
+// What must be believed, and nothing else: the types of the answers here, and in specs/ the definitions that document
+// 01 words, with the statements of the demands (specs/Demands.antt). The crate spec_laws proves those statements.
 
-use refusal::Refusal;
+// The lines of document 01's table, in its order.
+pub enum Reason {
+    CatalogueSize,
+    CommandCount,
+    Index,
+    RecordCommand,
+    EndlessChain,
+    OwnChain,
+    PlanSize,
+    PlanByte,
+    AreaSize,
+    Unsettled,
+    Framing,
+}
+
+// plan is 1, 2 or 3 in the order given, and 0 for the catalogue; place counts from 0.
+pub struct Refusal {
+    pub reason: Reason,
+    pub plan: u8,
+    pub place: usize,
+}
 
 // The length of a plan that stands at the start of the area.
 pub enum Written {
@@ -33,5 +52,13 @@ pub struct Lengths {
 pub enum LeadIn {
     Yes(Lengths),
     No(Lengths),
+    Refused(Refusal),
+}
+
+// What the program says: two loops are joined and their core has so many letters, or they are apart, or the input is
+// refused.
+pub enum Verdict {
+    Joined(usize),
+    Apart,
     Refused(Refusal),
 }

@@ -2,7 +2,7 @@
 -- beside its undo put in or taken out. Undoing a word, and conjugating by one.
 use mathlib.Core.Path.{_≡_}
 use mathlib.Core.Bool.{false}
-use mathlib.Core.List.{[], _∷_, _++_}
+use mathlib.Core.List.{[], _∷_, _++_, map, reverseAux}
 use Rattle.theory_words.specs.Alphabet.{Alphabet, Word, dep}
 use Rattle.theory_words.specs.Trace.{First}
 
@@ -25,8 +25,7 @@ module _ (Γ : Alphabet) where
 
   -- u undone, backwards, then v
   unfoldable pub undo : Word Γ → Word Γ → Word Γ
-  undo [] v = v
-  undo (a ∷ u) v = undo u (inv a ∷ v)
+  undo u v = reverseAux (map inv u) v
 
   -- u undone, then x, then u
   unfoldable pub conj : Word Γ → Word Γ → Word Γ

@@ -1,8 +1,8 @@
 -- `call_codes::refusal_code` meets its contract: each arm by the reason that it is for.
 use mathlib.Core.Path.{_≡_, sym, ap}
 use lib.IntN.{pos, negℤ}
-use Rattle.refusal.specs.Line.{numberOf}
-use Rattle.refusal.specs.declared.Reason.{Reason}
+use Rattle.spec.specs.Table.{numberOf}
+use Rattle.spec.specs.declared.Reason.{Reason}
 use borrow.Author.Needs.{needs}
 use Rattle.call_codes.proofs.refusal_code.Statement.{statement}
 use Rattle.call_codes.proofs.refusal_code.Tie as tie

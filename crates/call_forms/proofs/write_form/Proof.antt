@@ -1,7 +1,7 @@
 -- `call_forms::write_form` meets its contract: a line refuses, or the form is written. Assumes nothing.
 use Prim.Native.Nat.{ℕ}
 use mathlib.Core.List.{List}
-use Rattle.engine.specs.Passed.{Passed}
+use Rattle.input_checks.specs.Passed.{Passed}
 use Rattle.input_checks.specs.EntryLaws.{entered-none}
 use Rattle.piling_form.specs.Coring.{form}
 use Rattle.call_forms.specs.FormingLaws.{form-refused, form-small, form-written}

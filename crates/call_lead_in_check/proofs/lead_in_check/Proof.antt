@@ -1,14 +1,8 @@
 -- `call_lead_in_check::lead_in_check` meets its contract: a line refuses, or v·u and u·w are compared. Assumes nothing.
 use Prim.Native.Nat.{ℕ}
 use mathlib.Core.List.{List}
-use Rattle.checking.specs.Checking.{Checkable}
-use Rattle.call_lead_in_check.specs.LeadCheckLaws.{
-  check-refused,
-  check-small0,
-  check-small1,
-  check-checkable,
-  check-told,
-}
+use Rattle.call_lead_in_check.specs.Checking.{Checkable}
+use Rattle.call_lead_in_check.specs.LeadCheckLaws.{check-refused, check-small0, check-small1, check-checkable, check-told}
 use borrow.Author.Needs.{needs}
 use Rattle.call_lead_in_check.proofs.lead_in_check.Statement.{statement}
 use Rattle.call_lead_in_check.proofs.lead_in_check.Tie as tie

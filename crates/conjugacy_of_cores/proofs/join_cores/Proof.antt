@@ -4,7 +4,7 @@ use Prim.Native.Nat.{ℕ}
 use mathlib.Core.Path.{_≡_}
 use mathlib.Core.List.{List}
 use borrow.Author.Needs.{needs}
-use Rattle.input_plan.specs.Letters.{alphabet}
+use Rattle.spec.specs.Letters.{alphabet}
 use Rattle.theory_conjugacy.specs.Part.{commands}
 use Rattle.conjugacy_ring.specs.RingLaws.{cyclic-lettered}
 use Rattle.conjugacy_of_cores.specs.CoreLaws.{tells-same, cores-apart, cores-leadable, cores-lead}

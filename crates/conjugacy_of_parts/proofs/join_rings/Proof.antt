@@ -6,7 +6,7 @@ use mathlib.Core.List.{List, []}
 use mathlib.Core.Option.{some}
 use native.Mathlib.Omega.{arith}
 use borrow.Author.Needs.{needs}
-use Rattle.input_plan.specs.Letters.{alphabet}
+use Rattle.spec.specs.Letters.{alphabet}
 use Rattle.theory_conjugacy.specs.Rotation.{rotation}
 use Rattle.conjugacy_of_parts.specs.TurnLaws.{nowhere-apart, start-found, start-within, start-count, start-end, turned}
 use Rattle.conjugacy_of_parts.proofs.join_rings.Statement.{statement}

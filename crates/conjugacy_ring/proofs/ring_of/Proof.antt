@@ -5,9 +5,9 @@ use mathlib.Core.List.{List}
 use native.Mathlib.Omega.{arith}
 use lib.ListN.{take}
 use borrow.Author.Needs.{needs}
-use Rattle.input_plan.specs.Area.{StartsWith}
-use Rattle.input_plan.specs.AreaLaws.{starts-fits, starts-take, starts-count}
-use Rattle.input_plan.specs.Letters.{alphabet}
+use Rattle.array_row.specs.Area.{StartsWith}
+use Rattle.array_row.specs.AreaLaws.{starts-fits, starts-take, starts-count}
+use Rattle.spec.specs.Letters.{alphabet}
 use Rattle.theory_conjugacy.specs.Part as Part
 use Rattle.conjugacy_settling.specs.Settling.{Settleable, Ended}
 use Rattle.conjugacy_ring.specs.Ring.{Ringable}

@@ -2,9 +2,9 @@
 use Prim.Native.Nat.{_+_, _-_}
 use native.Mathlib.Omega.{arith}
 use mathlib.Core.Path.{ap}
-use Rattle.refusal.specs.Search.{lineAt}
-use Rattle.refusal.specs.SearchLaws.{Searching, search-start, search-again, search-hit, search-end}
-use Rattle.input_catalogue.specs.Catalogue.{commands, headPlace}
+use Rattle.spec.specs.Table.{lineAt}
+use Rattle.spec_laws.specs.SearchLaws.{Searching, search-start, search-again, search-hit, search-end}
+use Rattle.spec.specs.Catalogue.{commands, headPlace}
 use Rattle.input_catalogue.specs.SoundLaws.{decides, passes, highHead, head-high, head-low}
 use Rattle.input_catalogue.proofs.heads.Statement.{statement}
 use Rattle.input_catalogue.proofs.heads.Tie as tie

@@ -3,9 +3,9 @@ use Prim.Native.Nat.{_+_, _-_}
 use native.Mathlib.Omega.{arith}
 use mathlib.Core.Path.{ap}
 use mathlib.Core.Logic.{⊎-elim}
-use Rattle.refusal.specs.Search.{lineAt}
-use Rattle.refusal.specs.SearchLaws.{Searching, search-start, search-again, search-hit, search-end}
-use Rattle.input_catalogue.specs.Catalogue.{records, commandPlace}
+use Rattle.spec.specs.Table.{lineAt}
+use Rattle.spec_laws.specs.SearchLaws.{Searching, search-start, search-again, search-hit, search-end}
+use Rattle.spec.specs.Catalogue.{records, commandPlace}
 use Rattle.input_catalogue.specs.SoundLaws.{decides, passes, wrongCommand, command-zero, command-high, command-fine}
 use Rattle.input_catalogue.proofs.named.Statement.{statement}
 use Rattle.input_catalogue.proofs.named.Tie as tie

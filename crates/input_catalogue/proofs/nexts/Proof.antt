@@ -3,9 +3,9 @@ use Prim.Native.Nat.{_+_, _-_}
 use native.Mathlib.Omega.{arith}
 use mathlib.Core.Path.{ap}
 use borrow.Author.Tests.{lt-ltb, le-ltb}
-use Rattle.refusal.specs.Search.{lineAt}
-use Rattle.refusal.specs.SearchLaws.{Searching, search-start, search-again, search-hit, search-end}
-use Rattle.input_catalogue.specs.Catalogue.{records, nextPlace, next}
+use Rattle.spec.specs.Table.{lineAt}
+use Rattle.spec_laws.specs.SearchLaws.{Searching, search-start, search-again, search-hit, search-end}
+use Rattle.spec.specs.Catalogue.{records, nextPlace, next}
 use Rattle.input_catalogue.specs.SoundLaws.{decides, passes, highNext}
 use Rattle.input_catalogue.proofs.nexts.Statement.{statement}
 use Rattle.input_catalogue.proofs.nexts.Tie as tie

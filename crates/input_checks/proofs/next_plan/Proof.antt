@@ -1,5 +1,5 @@
-use Rattle.input_plan.specs.Plan.{planLines}
-use Rattle.input_catalogue.specs.Catalogue.{commands}
+use Rattle.spec.specs.Plan.{planLines}
+use Rattle.spec.specs.Catalogue.{commands}
 use Rattle.input_checks.specs.EntryLaws.{then-more, then-refused, then-passed}
 use borrow.Author.Needs.{needs}
 use Rattle.input_checks.proofs.next_plan.Statement.{statement}

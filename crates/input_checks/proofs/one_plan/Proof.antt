@@ -1,4 +1,4 @@
-use Rattle.input_catalogue.specs.Catalogue.{catalogueLines}
+use Rattle.spec.specs.Catalogue.{catalogueLines}
 use Rattle.input_checks.specs.EntryLaws.{first-entered}
 use borrow.Author.Needs.{needs}
 use Rattle.input_checks.proofs.one_plan.Statement.{statement}

@@ -4,14 +4,7 @@ use native.Mathlib.Omega.{arith}
 use mathlib.Core.Path.{refl, sym, _∙_}
 use lib.ListN.{getD}
 use Rattle.input_conflicts.specs.Known.{Walked}
-use Rattle.input_conflicts.specs.KnownLaws.{
-  known-below,
-  like-ends,
-  like-chained,
-  like-known,
-  walked-chained,
-  walked-known,
-}
+use Rattle.input_conflicts.specs.KnownLaws.{known-below, like-ends, like-chained, like-known, walked-chained, walked-known}
 use borrow.Author.Needs.{needs}
 use Rattle.input_conflicts.proofs.chain_of.Statement.{statement}
 use Rattle.input_conflicts.proofs.chain_of.Tie as tie

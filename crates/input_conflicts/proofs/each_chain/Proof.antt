@@ -5,9 +5,9 @@ use native.Mathlib.Omega.{arith}
 use mathlib.Core.Path.{ap, sym, _∙_}
 use mathlib.Core.Bool.{not}
 use borrow.Author.Tests.{not-false}
-use Rattle.refusal.specs.Search.{lineAt}
-use Rattle.refusal.specs.SearchLaws.{Searching, search-start, search-again, search-hit, search-end}
-use Rattle.input_catalogue.specs.Catalogue.{commands, headPlace}
+use Rattle.spec.specs.Table.{lineAt}
+use Rattle.spec_laws.specs.SearchLaws.{Searching, search-start, search-again, search-hit, search-end}
+use Rattle.spec.specs.Catalogue.{commands, headPlace}
 use Rattle.input_catalogue.specs.SoundLaws.{decides, passes, some-none}
 use Rattle.input_conflicts.specs.Known.{Chained, Known}
 use Rattle.input_conflicts.specs.ChainLaws.{endless, chained-start, chained-end}

@@ -2,9 +2,9 @@
 use Prim.Native.Nat.{_+_, _-_}
 use native.Mathlib.Omega.{arith}
 use mathlib.Core.Path.{ap}
-use Rattle.refusal.specs.Search.{lineAt}
-use Rattle.refusal.specs.SearchLaws.{Searching, search-start, search-again, search-hit, search-end}
-use Rattle.input_catalogue.specs.Catalogue.{commands, headPlace, chain, stands}
+use Rattle.spec.specs.Table.{lineAt}
+use Rattle.spec_laws.specs.SearchLaws.{Searching, search-start, search-again, search-hit, search-end}
+use Rattle.spec.specs.Catalogue.{commands, headPlace, chain, stands}
 use Rattle.input_catalogue.specs.SoundLaws.{decides, passes}
 use Rattle.input_conflicts.specs.ChainLaws.{met-own, met-not}
 use Rattle.input_conflicts.proofs.own_chain.Statement.{statement}

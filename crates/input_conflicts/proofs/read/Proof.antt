@@ -1,7 +1,7 @@
 -- `read` goes through the checks in the table's order; where all pass, the marks with the diagonal are the conflicts.
 use mathlib.Core.Path.{_≡_}
 use mathlib.Core.Option.{none}
-use Rattle.input_catalogue.specs.Catalogue.{orIf, endlessLine, ownLine}
+use Rattle.spec.specs.Catalogue.{orIf, endlessLine, ownLine}
 use Rattle.input_catalogue.specs.Sound.{soundLine}
 use Rattle.input_catalogue.specs.SoundLaws.{passed-none, then-passed, then-refused}
 use Rattle.input_conflicts.specs.ReadLaws.{sound-none, answers-passed, answers-refused}
@@ -13,7 +13,7 @@ use Rattle.input_conflicts.proofs.read.Tie as tie
 sound-line : (c : tie.After-enum-told) → soundLine (c .before .before .before .before .args .catalogue .now) ≡ none
 sound-line c =
     let cat = c .before .before .before .before .args .catalogue .now in
-    let r = c .before .before .checked in
+    let r = c .before .before .check in
     passed-none cat (soundLine cat) (r .result) (r .ensures) (c .enum-told .given .1)
 
 abbrev before-chains : tie.After-enum-told3 → tie.After-enum-told
@@ -26,8 +26,8 @@ endless-line c =
     let r = c .before .before .each-chain in
     passed-none cat (endlessLine cat) (r .result) (r .ensures .0) (c .enum-told3 .given .1)
 
-checked-requires : tie.Need-checked-requires
-checked-requires c κs = search needs
+check-requires : tie.Need-check-requires
+check-requires c κs = search needs
 
 enum-told : tie.Need-enum-told
 enum-told c = search needs
@@ -38,7 +38,7 @@ enum-told-2 c = search needs
 returns : tie.Need-returns
 returns c =
     let cat = c .before .before .before .before .args .catalogue .now in
-    let r = c .before .before .checked in
+    let r = c .before .before .check in
     let last = orIf (endlessLine cat) (ownLine cat) in
     let d = then-refused cat (soundLine cat) last (r .result) (r .ensures) (c .enum-told2 .given .1) in
     answers-refused cat (r .result) d (c .enum-told2 .given .1)
@@ -123,7 +123,7 @@ pub read-spec : {M : Type 1} → statement M
 read-spec =
     tie.close
     (tie.spec
-    checked-requires
+    check-requires
     enum-told
     enum-told-2
     returns

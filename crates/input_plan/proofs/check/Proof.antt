@@ -3,7 +3,7 @@ use mathlib.Core.Path.{ap, _∙_}
 use native.Mathlib.Omega.{arith}
 use borrow.Author.Needs.{needs}
 use Rattle.input_plan.specs.Place.{toldPlace}
-use Rattle.input_plan.specs.PlanLaws.{answer-long, answer-byte, answer-pass}
+use Rattle.spec_laws.specs.PlanLaws.{answer-long, answer-byte, answer-pass}
 use Rattle.input_plan.proofs.check.Statement.{statement}
 use Rattle.input_plan.proofs.check.Tie as tie
 

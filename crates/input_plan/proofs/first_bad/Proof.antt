@@ -1,7 +1,7 @@
 -- `input_plan::first_bad` meets its contract: where every byte passes there is no first that does not.
 use mathlib.Core.Path.{sym}
 use native.Mathlib.Omega.{arith}
-use Rattle.input_plan.specs.PlanLaws.{passing-bad}
+use Rattle.spec_laws.specs.PlanLaws.{passing-bad}
 use Rattle.input_plan.proofs.first_bad.Statement.{statement}
 use Rattle.input_plan.proofs.first_bad.Tie as tie
 

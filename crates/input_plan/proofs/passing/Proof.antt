@@ -3,7 +3,7 @@
 use mathlib.Core.Path.{sym}
 use native.Mathlib.Omega.{arith}
 use borrow.Author.Needs.{needs}
-use Rattle.input_plan.specs.PlanLaws.{passes-low, passes-mid, passes-high}
+use Rattle.spec_laws.specs.PlanLaws.{passes-low, passes-mid, passes-high}
 use Rattle.input_plan.proofs.passing.Statement.{statement}
 use Rattle.input_plan.proofs.passing.Tie as tie
 

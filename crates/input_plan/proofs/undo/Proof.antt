@@ -2,7 +2,7 @@
 use mathlib.Core.Path.{sym}
 use native.Mathlib.Omega.{arith}
 use borrow.Author.Needs.{needs}
-use Rattle.input_plan.specs.ByteLaws.{undone-zero, undone-128, undone-does, undone-undoes}
+use Rattle.spec.specs.AlphabetLaws.{undone-zero, undone-128, undone-does, undone-undoes}
 use Rattle.input_plan.proofs.undo.Statement.{statement}
 use Rattle.input_plan.proofs.undo.Tie as tie
 

@@ -1,7 +1,7 @@
 -- `print` puts the text of the input's answer.
 use mathlib.Core.Path.{subst}
 use lib.ListN.{take}
-use Rattle.loops_listing.specs.Listing.{Printed}
+use Rattle.spec.specs.Listing.{Printed}
 use borrow.Author.Needs.{needs}
 use Rattle.loops.proofs.print.Statement.{statement}
 use Rattle.loops.proofs.print.Tie as tie

@@ -1,5 +1,5 @@
 -- `put` puts the heading, the line and the last newline.
-use Rattle.loops_listing.specs.Listing.{toldVerdict}
+use Rattle.spec.specs.Listing.{toldVerdict}
 use Rattle.loops_listing.specs.PutLaws.{put-printed}
 use borrow.Author.Needs.{needs}
 use Rattle.loops_listing.proofs.put.Statement.{statement}

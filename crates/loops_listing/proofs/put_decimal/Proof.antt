@@ -2,6 +2,7 @@
 use native.Mathlib.Omega.{arith}
 use Prim.Native.Nat.{_≤_}
 use lib.ListN.{take}
+use Rattle.loops_listing.specs.DecimalLaws.{digits-decimal}
 use Rattle.loops_listing.specs.PutLaws.{decimal-short}
 use borrow.Author.Needs.{needs}
 use Rattle.loops_listing.proofs.put_decimal.Statement.{statement}
@@ -31,7 +32,7 @@ returns c =
     let start = c .before .before .before .before .before .before .before .before in
     record {
       text = take (d .result) (d .last .1 .0);
-      says = (d .result, d .ensures .1 .0, d .ensures .1 .1);
+      says = rw (d .ensures .1 .1) (digits-decimal (d .result) _ (d .ensures .1 .0));
       short = omega (arith, decimal-short (start .fits .n) (d .ensures .1 .0), d .ensures .0 .1);
       there = c .before .before .append .ensures;
     }

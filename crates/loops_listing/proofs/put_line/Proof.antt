@@ -1,7 +1,7 @@
 -- `put_line` puts one line, whichever the verdict is.
 use Rattle.loops_listing.specs.PutLaws.{put-joined, put-apart, put-told}
 use native.Mathlib.Omega.{arith}
-use Rattle.loops_listing.specs.declared.Verdict.the-variants.{Joined, Apart, Refused}
+use Rattle.spec.specs.declared.Verdict.the-variants.{Joined, Apart, Refused}
 use borrow.Author.Needs.{needs}
 use Rattle.loops_listing.proofs.put_line.Statement.{statement}
 use Rattle.loops_listing.proofs.put_line.Tie as tie

@@ -1,5 +1,5 @@
 -- `put_refusal` puts the words and numbers of a refusal one behind the other.
-use Rattle.refusal.specs.Line.{lineOf}
+use Rattle.spec.specs.Table.{lineOf}
 use Rattle.loops_listing.specs.PutLaws.{put-refused}
 use borrow.Author.Needs.{needs}
 use Rattle.loops_listing.proofs.put_refusal.Statement.{statement}

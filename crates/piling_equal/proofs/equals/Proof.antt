@@ -1,18 +1,7 @@
 -- `piling_equal::equals` meets its contract. The loop's invariant: of the word piled up, with the bytes from place i on
 -- undone, `spare` letters fewer than i are left.
 use native.Mathlib.Omega.{arith}
-use Rattle.piling_equal.specs.ComparingLaws.{
-  tells,
-  tells-not,
-  Undoing,
-  undoing-many,
-  undoing-start,
-  undoing-rest,
-  undoing-undoable,
-  undoing-again,
-  undoing-over,
-  undoing-end,
-}
+use Rattle.piling_equal.specs.ComparingLaws.{tells, tells-not, Undoing, undoing-many, undoing-start, undoing-rest, undoing-undoable, undoing-again, undoing-over, undoing-end}
 use Rattle.piling_equal.proofs.equals.Statement.{statement}
 use Rattle.piling_equal.proofs.equals.Tie as tie
 

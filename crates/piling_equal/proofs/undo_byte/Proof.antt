@@ -1,13 +1,7 @@
 -- `piling_equal::undo_byte` meets its contract.
 use native.Mathlib.Omega.{arith}
 use Rattle.piling_stacks.specs.PilingLaws.{still-ready}
-use Rattle.piling_equal.specs.ComparingLaws.{
-  undoable-range,
-  undoable-facing,
-  filler-undone,
-  cut-undone,
-  put-undone,
-}
+use Rattle.piling_equal.specs.ComparingLaws.{undoable-range, undoable-facing, filler-undone, cut-undone, put-undone}
 use Rattle.piling_equal.proofs.undo_byte.Statement.{statement}
 use Rattle.piling_equal.proofs.undo_byte.Tie as tie
 

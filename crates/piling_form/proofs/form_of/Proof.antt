@@ -3,8 +3,8 @@ use Prim.Native.Nat.{ℕ}
 use mathlib.Core.List.{List, reverse}
 use Rattle.piling_stacks.specs.Pile.{reduced}
 use Rattle.piling_core.specs.Peeling.{Peelable}
-use Rattle.engine.specs.Passed.{Passed}
-use Rattle.engine.specs.EngineLaws.{passed-given}
+use Rattle.input_checks.specs.Passed.{Passed}
+use Rattle.piling_equal.specs.EngineLaws.{passed-given}
 use Rattle.piling_form.specs.CoringLaws.{passed-peelable, remains-readable, formed}
 use borrow.Author.Needs.{needs}
 use Rattle.piling_form.proofs.form_of.Statement.{statement}

@@ -2,18 +2,7 @@
 use Prim.Native.Nat.{_-_, _<_}
 use native.Mathlib.Omega.{arith}
 use lib.ListN.{length, getD, length-set}
-use Rattle.piling_read.specs.ReadLaws.{
-  Written,
-  written-start,
-  written-end,
-  written-long,
-  written-again,
-  written-index,
-  written-fits,
-  written-lift,
-  written-room,
-  written-passed,
-}
+use Rattle.piling_read.specs.ReadLaws.{Written, written-start, written-end, written-long, written-again, written-index, written-fits, written-lift, written-room, written-passed}
 use Rattle.piling_read.proofs.read.Statement.{statement}
 use Rattle.piling_read.proofs.read.Tie as tie
 

@@ -3,15 +3,7 @@ use Prim.Native.Nat.{_-_}
 use native.Mathlib.Omega.{arith}
 use mathlib.Core.Logic.{⊎-elim}
 use Rattle.piling_read.specs.Reading.{Passed}
-use Rattle.piling_read.specs.ReadyLaws.{
-  room-low,
-  in-row,
-  passed-start,
-  passed-empty,
-  passed-wrapped,
-  passed-bead,
-  passed-all,
-}
+use Rattle.piling_read.specs.ReadyLaws.{room-low, in-row, passed-start, passed-empty, passed-wrapped, passed-bead, passed-all}
 use Rattle.piling_read.proofs.ready.Statement.{statement}
 use Rattle.piling_read.proofs.ready.Tie as tie
 

@@ -5,13 +5,7 @@ use denote.Ref.{now}
 use native.Mathlib.Omega.{arith}
 use mathlib.Core.Logic.{⊎-elim}
 use Rattle.piling_read.specs.Reading.{Passed}
-use Rattle.piling_read.specs.ReadyLaws.{
-  ready-index,
-  passed-empty,
-  passed-blank,
-  passed-found,
-  passed-all,
-}
+use Rattle.piling_read.specs.ReadyLaws.{ready-index, passed-empty, passed-blank, passed-found, passed-all}
 use Rattle.piling_read.proofs.ready_from.Statement.{statement}
 use Rattle.piling_read.proofs.ready_from.Tie as tie
 

@@ -1,14 +1,7 @@
 -- `piling_read::starts` meets its contract: the lines below j have been counted.
 use Prim.Native.Nat.{_-_}
 use native.Mathlib.Omega.{arith}
-use Rattle.piling_read.specs.StartsLaws.{
-  Counting,
-  counting-start,
-  counting-line,
-  counting-room,
-  counting-again,
-  counting-end,
-}
+use Rattle.piling_read.specs.StartsLaws.{Counting, counting-start, counting-line, counting-room, counting-again, counting-end}
 use Rattle.piling_read.proofs.starts.Statement.{statement}
 use Rattle.piling_read.proofs.starts.Tie as tie
 

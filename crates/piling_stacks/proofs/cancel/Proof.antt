@@ -7,8 +7,8 @@ use mathlib.Core.List.{List}
 use lib.ListN.{getD}
 use denote.Ref.{now}
 use Rattle.theory_words.specs.Trace.{First}
-use Rattle.input_plan.specs.Byte.{undone}
-use Rattle.input_plan.specs.Letters.{alphabet}
+use Rattle.spec.specs.Byte.{undone}
+use Rattle.spec.specs.Letters.{alphabet}
 use Rattle.piling_stacks.specs.Push.{Facing}
 use Rattle.piling_stacks.specs.PilingLaws.{facing-high, top-first, first-top, cut-room, cut-acts, gone-off, none-off}
 use Rattle.piling_stacks.proofs.cancel.Statement.{statement}

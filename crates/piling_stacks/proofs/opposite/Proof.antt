@@ -1,7 +1,7 @@
 -- `piling_stacks::opposite` meets its contract: a byte of a command is 1 to 127, or 129 to 255.
 use native.Mathlib.Omega.{arith}
 use mathlib.Core.Path.{sym}
-use Rattle.input_plan.specs.ByteLaws.{undone-does, undone-undoes}
+use Rattle.spec.specs.AlphabetLaws.{undone-does, undone-undoes}
 use Rattle.piling_stacks.proofs.opposite.Statement.{statement}
 use Rattle.piling_stacks.proofs.opposite.Tie as tie
 

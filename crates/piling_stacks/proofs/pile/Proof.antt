@@ -4,7 +4,7 @@ use Prim.Native.Nat.{_-_, _≤_}
 use native.Mathlib.Omega.{arith}
 use mathlib.Core.Logic.{⊎-elim}
 use lib.ListN.{length, getD, take}
-use Rattle.input_plan.specs.Byte.{commandOf}
+use Rattle.spec.specs.Byte.{commandOf}
 use Rattle.piling_stacks.specs.Pile.{reduced}
 use Rattle.piling_stacks.specs.PileLaws.{Piling, piling-start, given-range, piling-ready, piling-filler, piling-letter}
 use Rattle.piling_stacks.specs.PileLaws.{piling-end}

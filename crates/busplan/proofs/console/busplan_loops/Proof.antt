@@ -4,7 +4,7 @@ use native.Mathlib.Omega.{arith}
 use mir.Syntax.{w64}
 use mir.ValLaws.{toZ-ofZ}
 use Rattle.spec.specs.Answers.{toldLoops}
-use Rattle.spec.specs.CodeLaws.{looped-length}
+use Rattle.spec_laws.specs.CodeLaws.{looped-length}
 use borrow.Author.Needs.{needs}
 use Rattle.busplan.proofs.console.busplan_loops.Statement.{statement}
 use Rattle.busplan.proofs.console.busplan_loops.Tie as tie

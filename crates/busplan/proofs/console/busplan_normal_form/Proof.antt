@@ -4,7 +4,7 @@ use native.Mathlib.Omega.{arith}
 use mir.Syntax.{w64}
 use mir.ValLaws.{toZ-ofZ}
 use Rattle.spec.specs.Codes.{lengthCode}
-use Rattle.spec.specs.CodeLaws.{written-length}
+use Rattle.spec_laws.specs.CodeLaws.{written-length}
 use borrow.Author.Needs.{needs}
 use Rattle.busplan.proofs.console.busplan_normal_form.Statement.{statement}
 use Rattle.busplan.proofs.console.busplan_normal_form.Tie as tie

@@ -1,0 +1,46 @@
+-- `checking::product_in` meets its contract: the normal form of what the row begins with. Assumes nothing.
+use mathlib.Core.Path.{sym}
+use lib.Seq.{length-take-le}
+use Rattle.call_lead_in_check.specs.CheckingLaws.{joined-given, joined-formable, joined-written}
+use borrow.Author.Needs.{needs}
+use Rattle.call_lead_in_check.proofs.product_in.Statement.{statement}
+use Rattle.call_lead_in_check.proofs.product_in.Tie as tie
+
+join-requires : tie.Need-join-requires
+join-requires c κs = search needs
+
+slice-reshare-prefix-form : tie.Need-slice-reshare-prefix-form
+slice-reshare-prefix-form c = search needs
+
+slice-aggregate-form : tie.Need-slice-aggregate-form
+slice-aggregate-form c = sym (length-take-le _ _ (slice-reshare-prefix-form (c .before)))
+
+form-requires : tie.Need-form-requires
+form-requires c κs =
+    let j = c .before .before .before .before in
+    let (k, f, s) = j .before .before .before .before .before .before .pre in
+    (k, joined-formable (j .join .ensures) f)
+
+same-length : tie.Need-same-length
+same-length c = search needs
+
+same-length-2 : tie.Need-same-length-2
+same-length-2 c = search needs
+
+returns : tie.Need-returns
+returns c =
+    let n = c .before .before in
+    let j = n .before .before .before .before .before .join .ensures in
+    λ k f. joined-written k j (n .form .ensures k (joined-given j f))
+
+pub product-in-spec : {M : Type 1} → statement M
+product-in-spec =
+    tie.close
+    (tie.spec
+    join-requires
+    slice-reshare-prefix-form
+    slice-aggregate-form
+    form-requires
+    same-length
+    same-length-2
+    returns)

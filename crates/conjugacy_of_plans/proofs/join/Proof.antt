@@ -1,0 +1,176 @@
+-- Both cores are found, and lent with the letters taken off. Assumes nothing.
+use Prim.Native.Nat.{ℕ}
+use mathlib.Core.List.{List}
+use native.Mathlib.Omega.{arith}
+use lib.ListN.{take}
+use borrow.Author.Needs.{needs}
+use Rattle.array_row.specs.AreaLaws.{starts-fits, starts-count}
+use Rattle.piling_form.specs.Coring.{CoreOf}
+use Rattle.piling_form.specs.CoringLaws.{core-of}
+use Rattle.conjugacy_of_plans.specs.Join.{Plans, Cores}
+use Rattle.conjugacy_of_plans.specs.SpanLaws.{cores-room}
+use Rattle.conjugacy_of_plans.specs.CoresLaws.{stripped, off-count, off-fits}
+use Rattle.conjugacy_of_plans.proofs.join.Statement.{statement}
+use Rattle.conjugacy_of_plans.proofs.join.Tie as tie
+
+-- places on the way
+
+abbrev first : tie.After-form-of2 → tie.After-form-of
+first o = o .before .before .before .before .before .before .before
+
+abbrev start : tie.After-form-of2 → tie.Start
+start o = first o .before .before .before .before .before .before .before .before
+
+-- what is asked, for one catalogue
+abbrev Asked : tie.After-form-of2 → List ℕ → Type 0
+Asked o k = let s = start o .args in Plans k (s .conflicts .now) (s .v .now) (s .w .now) (s .commands)
+
+-- the cores, and the letters taken off
+
+one : (o : tie.After-form-of2) (k : List ℕ) → Asked o k
+    → (let r = first o .form-of in CoreOf k (start o .args .v .now)
+    (first o .before .before .before .before .sheet .result) (first o .before .before .before .sheet2 .result)
+    (r .last .1 .1 .0) (r .last .1 .1 .1 .0) (r .result .form) (r .result .lead))
+one o k p = core-of (first o .form-of .ensures k (p .first))
+
+two : (o : tie.After-form-of2) (k : List ℕ) → Asked o k
+    → (let r = o .form-of2 in CoreOf k (start o .args .w .now)
+    (o .before .before .before .before .sheet3 .result) (o .before .before .before .sheet4 .result)
+    (r .last .1 .1 .0) (r .last .1 .1 .1 .0) (r .result .form) (r .result .lead))
+two o k p = core-of (o .form-of2 .ensures k (p .second))
+
+cores : (o : tie.After-form-of2) (k : List ℕ) → Asked o k
+    → (let s = start o .args in let r = first o .form-of in let t = o .form-of2 in
+    Cores k (s .conflicts .now) (s .v .now) (s .w .now) (take (r .result .form) (r .last .1 .1 .0))
+    (take (r .result .lead) (r .last .1 .1 .1 .0)) (take (t .result .form) (t .last .1 .1 .0))
+    (take (t .result .lead) (t .last .1 .1 .1 .0)) (s .commands))
+cores o k p = record { plans = p; first = stripped (one o k p); second = stripped (two o k p) }
+
+sheet-requires : tie.Need-sheet-requires
+sheet-requires c κs = search needs
+
+sheet-requires-2 : tie.Need-sheet-requires-2
+sheet-requires-2 c κs = search needs
+
+slice-aggregate-form-of : tie.Need-slice-aggregate-form-of
+slice-aggregate-form-of c = search needs
+
+slice-aggregate-form-of-2 : tie.Need-slice-aggregate-form-of-2
+slice-aggregate-form-of-2 c = search needs
+
+form-of-requires : tie.Need-form-of-requires
+form-of-requires c κs =
+    let s = c .before .before .before .before .before .before .before in
+    let p = s .pre .1 .first in (
+      s .pre .0,
+      p,
+      record {
+        wide = omega (arith, p .short, c .before .before .before .sheet .ensures);
+        deep = omega (arith, p .short, c .before .before .sheet2 .ensures);
+      },
+    )
+
+sheet-requires-3 : tie.Need-sheet-requires-3
+sheet-requires-3 c κs = search needs
+
+sheet-requires-4 : tie.Need-sheet-requires-4
+sheet-requires-4 c κs = search needs
+
+slice-aggregate-form-of-3 : tie.Need-slice-aggregate-form-of-3
+slice-aggregate-form-of-3 c = search needs
+
+slice-aggregate-form-of-4 : tie.Need-slice-aggregate-form-of-4
+slice-aggregate-form-of-4 c = search needs
+
+form-of-requires-2 : tie.Need-form-of-requires-2
+form-of-requires-2 c κs =
+    let f = c .before .before .before .before .before .before in
+    let s = f .before .before .before .before .before .before .before .before in
+    let p = s .pre .1 .second in (
+      s .pre .0,
+      p,
+      record {
+        wide = omega (arith, p .short, c .before .before .before .sheet3 .ensures);
+        deep = omega (arith, p .short, c .before .before .sheet4 .ensures);
+      },
+    )
+
+array-share-prefix-x : tie.Need-array-share-prefix-x
+array-share-prefix-x c =
+    let o = c .before .before in
+    starts-fits (one o (start o .pre .0) (start o .pre .1) .form)
+
+slice-aggregate-span : tie.Need-slice-aggregate-span
+slice-aggregate-span c =
+    let o = c .before .before .before in
+    starts-count (one o (start o .pre .0) (start o .pre .1) .form)
+
+array-share-prefix-g : tie.Need-array-share-prefix-g
+array-share-prefix-g c =
+    let o = c .before .before .before in
+    off-fits (one o (start o .pre .0) (start o .pre .1))
+
+slice-aggregate-span-2 : tie.Need-slice-aggregate-span-2
+slice-aggregate-span-2 c =
+    let o = c .before .before .before .before in
+    off-count (one o (start o .pre .0) (start o .pre .1))
+
+array-share-prefix-y : tie.Need-array-share-prefix-y
+array-share-prefix-y c =
+    let o = c .before .before .before .before in
+    starts-fits (two o (start o .pre .0) (start o .pre .1) .form)
+
+slice-aggregate-span-3 : tie.Need-slice-aggregate-span-3
+slice-aggregate-span-3 c =
+    let o = c .before .before .before .before .before in
+    starts-count (two o (start o .pre .0) (start o .pre .1) .form)
+
+array-share-prefix-h : tie.Need-array-share-prefix-h
+array-share-prefix-h c =
+    let o = c .before .before .before .before .before in
+    off-fits (two o (start o .pre .0) (start o .pre .1))
+
+slice-aggregate-span-4 : tie.Need-slice-aggregate-span-4
+slice-aggregate-span-4 c =
+    let o = c .before .before .before .before .before .before in
+    off-count (two o (start o .pre .0) (start o .pre .1))
+
+span-requires : tie.Need-span-requires
+span-requires c κs =
+    let o = c .before .before .before .before .before .before .before in
+    let (k, p, f) = start o .pre in
+    (k, _, _, cores o k p, cores-room (cores o k p), f)
+
+same-length : tie.Need-same-length
+same-length c = search needs
+
+returns : tie.Need-returns
+returns c =
+    let o = c .before .before .before .before .before .before .before .before .before .before in
+    λ k p. c .before .before .span .ensures k _ _ (cores o k p)
+
+pub join-spec : {M : Type 1} → statement M
+join-spec =
+    tie.close
+    (tie.spec
+    sheet-requires
+    sheet-requires-2
+    slice-aggregate-form-of
+    slice-aggregate-form-of-2
+    form-of-requires
+    sheet-requires-3
+    sheet-requires-4
+    slice-aggregate-form-of-3
+    slice-aggregate-form-of-4
+    form-of-requires-2
+    array-share-prefix-x
+    slice-aggregate-span
+    array-share-prefix-g
+    slice-aggregate-span-2
+    array-share-prefix-y
+    slice-aggregate-span-3
+    array-share-prefix-h
+    slice-aggregate-span-4
+    span-requires
+    same-length
+    returns)

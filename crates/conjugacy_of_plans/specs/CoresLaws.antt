@@ -1,0 +1,33 @@
+-- The core of a plan, and the letters taken off in front: what is lent of them.
+use Prim.Native.Nat.{ℕ, _≤_}
+use native.Mathlib.Omega.{arith}
+use mathlib.Core.Path.{_≡_}
+use mathlib.Core.List.{List}
+use lib.ListN.{length, take, length-take}
+use Rattle.theory_words.specs.TraceLaws.{~-length}
+use Rattle.theory_conjugacy.specs.CoreLaws.{core-length}
+use Rattle.array_row.specs.AreaLaws.{starts-take}
+use Rattle.spec.specs.Letters.{letters, alphabet}
+use Rattle.piling_form.specs.Coring.{CoreOf}
+use Rattle.conjugacy_of_plans.specs.Stripped.{Stripped}
+use Rattle.conjugacy_of_plans.specs.StrippedLaws.{form-~}
+
+module _ {c v core lead core′ lead′ : List ℕ} {n m : ℕ} (k : CoreOf c v core lead core′ lead′ n m) where
+  pub stripped : Stripped c v (take n core′) (take m lead′)
+  stripped = record {
+    form = starts-take (k .form);
+    off = k .off;
+  }
+
+  pub off-count : m ≡ length (take m lead′)
+  off-count = omega (
+    arith,
+    k .count,
+    core-length (alphabet c) (letters v),
+    ~-length (alphabet c) (k .off),
+    ~-length (alphabet c) (form-~ c v),
+    k .form .count,
+  )
+
+  pub off-fits : m ≤ length lead′
+  off-fits = omega (arith, off-count, length-take m lead′)

@@ -1,0 +1,85 @@
+-- `mark_like` marks the members of a row one by one. The loop's invariant: those from j on are still to be marked.
+use Prim.Native.Nat.{_-_}
+use native.Mathlib.Omega.{arith}
+use mathlib.Core.List.{[]}
+use lib.ListN.{getD}
+use Rattle.input_conflicts.specs.MembersLaws.{Liking, liking-start, liking-again, liking-end}
+use Rattle.input_conflicts.proofs.mark_like.Statement.{statement}
+use Rattle.input_conflicts.proofs.mark_like.Tie as tie
+
+abbrev Inv-loop : tie.InvT-loop
+Inv-loop own b a rows₀ j₀ rows j = Liking a (getD own (b - 1) []) rows₀ rows j
+
+abbrev μ-loop : tie.MeasureT-loop
+μ-loop own b a rows₀ j₀ rows j = 24 - j
+
+loop-holds : tie.Need-loop-holds Inv-loop μ-loop
+loop-holds c =
+    let s = c in
+    let (ha, hb) = s .pre .1 .1 in
+    liking-start (s .args .a) ha (getD (s .args .own .now) (s .args .b - 1) [])
+    (s .pre .0 .wide (s .args .b - 1) (omega arith)) (s .args .rows .now) (s .pre .1 .0)
+
+sub-mark-if : tie.Need-sub-mark-if Inv-loop μ-loop
+sub-mark-if c = omega arith
+
+mul-mark-if : tie.Need-mul-mark-if Inv-loop μ-loop
+mul-mark-if c = omega arith
+
+mul-mark-if-2 : tie.Need-mul-mark-if-2 Inv-loop μ-loop
+mul-mark-if-2 c = omega arith
+
+index-1-mark-if : tie.Need-index-1-mark-if Inv-loop μ-loop
+index-1-mark-if c = omega arith
+
+index-2-mark-if : tie.Need-index-2-mark-if Inv-loop μ-loop
+index-2-mark-if c = omega arith
+
+add-mark-if : tie.Need-add-mark-if Inv-loop μ-loop
+add-mark-if c = omega arith
+
+mark-if-requires : tie.Need-mark-if-requires Inv-loop μ-loop
+mark-if-requires c κs =
+    let g = c .before .before .before .loop in
+    let s = c .before .before .before .before in
+    (g .inv .shape, (s .pre .1 .1 .0 .0, (s .pre .1 .1 .0 .1, (omega arith, omega arith))))
+
+add-j : tie.Need-add-j Inv-loop μ-loop
+add-j c = omega arith
+
+loop-less : tie.Need-loop-less Inv-loop μ-loop
+loop-less c = omega arith
+
+loop-again : tie.Need-loop-again Inv-loop μ-loop
+loop-again c =
+    let s = c .before .before .before .before .before in
+    let g = c .before .before .before .before .loop in
+    let (ha, hb) = s .pre .1 .1 in
+    liking-again (s .args .a) ha (getD (s .args .own .now) (s .args .b - 1) [])
+    (s .pre .0 .wide (s .args .b - 1) (omega arith)) (g .inv) (omega arith) (c .mark-if .ensures)
+
+returns : tie.Need-returns Inv-loop μ-loop
+returns c =
+    let s = c .before .before in
+    let (ha, hb) = s .pre .1 .1 in
+    liking-end (s .args .a) ha (getD (s .args .own .now) (s .args .b - 1) [])
+    (s .pre .0 .wide (s .args .b - 1) (omega arith)) (c .before .loop .inv) (omega arith)
+
+pub mark-like-spec : {M : Type 1} → statement M
+mark-like-spec =
+    tie.close
+    (tie.spec
+    Inv-loop
+    μ-loop
+    loop-holds
+    sub-mark-if
+    mul-mark-if
+    mul-mark-if-2
+    index-1-mark-if
+    index-2-mark-if
+    add-mark-if
+    mark-if-requires
+    add-j
+    loop-less
+    loop-again
+    returns)

@@ -1,4 +1,0 @@
-pub mod Marks
-pub mod MarksLaws
-pub mod MembersLaws
-pub mod WalkLaws

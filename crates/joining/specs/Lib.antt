@@ -1,2 +1,0 @@
-pub mod UnsettledLaws
-pub mod CoresLaws

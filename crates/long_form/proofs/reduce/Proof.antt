@@ -1,0 +1,56 @@
+-- `long_reduction::reduce` meets its contract. The loop's invariant: the stacks are those of the word from place i on,
+-- reduced. Assumes nothing.
+use native.Mathlib.Omega.{arith}
+use mathlib.Core.Path.{refl}
+use Rattle.long_form.specs.ReducingLaws.{Backwards, backwards-some, backwards-again, backwards-end}
+use Rattle.long_form.proofs.reduce.Statement.{statement}
+use Rattle.long_form.proofs.reduce.Tie as tie
+
+abbrev Inv-loop : tie.InvT-loop
+Inv-loop word conflicts under₀ link₀ tops₀ blanks₀ i₀ under link tops blanks i =
+    Backwards conflicts word under₀ link₀ tops₀ blanks₀ under link tops blanks i
+
+abbrev μ-loop : tie.MeasureT-loop
+μ-loop word conflicts under₀ link₀ tops₀ blanks₀ i₀ under link tops blanks i = i
+
+loop-holds : tie.Need-loop-holds Inv-loop μ-loop
+loop-holds c = record { some = c .before .before .before .pre; unders = refl; links = refl; reaches = λ k r. r }
+
+sub-i : tie.Need-sub-i Inv-loop μ-loop
+sub-i c = omega arith
+
+step-requires : tie.Need-step-requires Inv-loop μ-loop
+step-requires c κs = backwards-some (c .before .before .before .before .before .loop .inv) (omega arith)
+
+loop-less : tie.Need-loop-less Inv-loop μ-loop
+loop-less c = omega arith
+
+loop-again : tie.Need-loop-again Inv-loop μ-loop
+loop-again c =
+    let l = c .before .before .before .before .before .before .before .before .before .before in
+    backwards-again (l .loop .inv) (omega arith) (omega arith) (omega arith)
+    (c .before .before .before .before .step .ensures)
+
+same-length : tie.Need-same-length Inv-loop μ-loop
+same-length c = c .before .loop .inv .unders
+
+same-length-2 : tie.Need-same-length-2 Inv-loop μ-loop
+same-length-2 c = c .before .loop .inv .links
+
+returns : tie.Need-returns Inv-loop μ-loop
+returns c = backwards-end (c .before .loop .inv) (c .loop-test .left)
+
+pub reduce-spec : {M : Type 1} → statement M
+reduce-spec =
+    tie.close
+    (tie.spec
+    Inv-loop
+    μ-loop
+    loop-holds
+    sub-i
+    step-requires
+    loop-less
+    loop-again
+    same-length
+    same-length-2
+    returns)

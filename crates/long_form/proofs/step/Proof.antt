@@ -1,0 +1,150 @@
+-- `long_reduction::step` meets its contract: a filler, a letter that is cut off with its undo, a letter that is put on.
+-- Assumes nothing.
+use native.Mathlib.Omega.{arith}
+use mathlib.Core.Path.{refl, sym, _∙_}
+use mathlib.Core.Logic.{⊎-elim}
+use borrow.Author.Needs.{needs}
+use Rattle.long_form.specs.ReducingLaws.{reducing-within, reducing-filler, reducing-lettered, reducing-lined}
+use Rattle.long_form.specs.ReducingLaws.{reducing-inside, reducing-puttable, reducing-put}
+use Rattle.long_form.specs.ReducingLaws.{reducing-cuttable, reducing-cut}
+use Rattle.long_form.proofs.step.Statement.{statement}
+use Rattle.long_form.proofs.step.Tie as tie
+
+-- the places on the way: past the test for a filler, past the test for blanks, past the test for the undo
+abbrev start : tie.Else1 → tie.Start
+start c = c .before .before .before .before .before
+
+abbrev letter : tie.Then2 → tie.Else1
+letter c = c .before .before .before
+
+abbrev bare : tie.Then3 → tie.Then2
+bare c = c .before .before .before .before
+
+shared-slice-read-a : tie.Need-shared-slice-read-a
+shared-slice-read-a c =
+    let s = c .before .before .before .before in
+    reducing-within (s .args .p) (s .pre .1)
+
+returns : tie.Need-returns
+returns c = λ k r. reducing-filler (c .before .before .before .before .before .args .p) r (c .if1 .taken)
+
+cast-k : tie.Need-cast-k
+cast-k c = search needs
+
+sub-k : tie.Need-sub-k
+sub-k c =
+    let s = start c in
+    reducing-lettered (s .args .p) (s .pre .1) refl refl (c .if1 .left) .0
+
+mul-line : tie.Need-mul-line
+mul-line c = search needs
+
+element-copy-out-line : tie.Need-element-copy-out-line
+element-copy-out-line c =
+    let s = start c in
+    reducing-lined (s .args .p) (s .pre .1) refl refl (c .if1 .left) .within
+
+mul-if2 : tie.Need-mul-if2
+mul-if2 c = search needs
+
+element-copy-out-if2 : tie.Need-element-copy-out-if2
+element-copy-out-if2 c = element-copy-out-line (c .before)
+
+mul-if3 : tie.Need-mul-if3
+mul-if3 c = search needs
+
+element-copy-out-if3 : tie.Need-element-copy-out-if3
+element-copy-out-if3 c = element-copy-out-line (letter c)
+
+cast-if3 : tie.Need-cast-if3
+cast-if3 c =
+    let t = c .before in
+    let l = letter t in
+    let s = start l in
+    omega (arith, reducing-cuttable (s .args .p) (s .pre .1) refl refl (l .if1 .left) (t .if2 .taken) .low)
+
+sub-if3 : tie.Need-sub-if3
+sub-if3 c =
+    let t = c .before in
+    let l = letter t in
+    let s = start l in
+    reducing-cuttable (s .args .p) (s .pre .1) refl refl (l .if1 .left) (t .if2 .taken) .some
+
+shared-slice-read-if3 : tie.Need-shared-slice-read-if3
+shared-slice-read-if3 c =
+    let t = c .before .before in
+    let l = letter t in
+    let s = start l in
+    reducing-inside (s .args .p) (s .pre .1) refl refl (l .if1 .left) (t .if2 .taken)
+
+undo-requires : tie.Need-undo-requires
+undo-requires c κs = search needs
+
+cut-requires : tie.Need-cut-requires
+cut-requires c κs =
+    let t = bare (c .before .before .before .before .before) in
+    let l = letter t in
+    let s = start l in
+    reducing-cuttable (s .args .p) (s .pre .1) refl refl (l .if1 .left) (t .if2 .taken)
+
+same-length : tie.Need-same-length
+same-length c = search needs
+
+same-length-2 : tie.Need-same-length-2
+same-length-2 c = search needs
+
+returns-2 : tie.Need-returns-2
+returns-2 c =
+    let u = c .before .before .before .before .before .before in
+    let t = bare u in
+    let l = letter t in
+    λ k r. reducing-cut (start l .args .p) r refl refl (l .if1 .left) (t .if2 .taken)
+    (u .if3 .taken ∙ u .before .undo .ensures) (c .cut .ensures)
+
+put-requires : tie.Need-put-requires
+put-requires c κs =
+    let l = c .before .before .before .before .before .before .before .before in
+    let s = start l in
+    reducing-puttable (s .args .p) (s .pre .1) refl refl (l .if1 .left)
+
+same-length-3 : tie.Need-same-length-3
+same-length-3 c = search needs
+
+same-length-4 : tie.Need-same-length-4
+same-length-4 c = search needs
+
+returns-3 : tie.Need-returns-3
+returns-3 c =
+    let p = c .before .before .before .before in
+    let j = p .before .before .before .before .before .before in
+    let l = j .before .before .before in
+    λ k r. reducing-put (start l .args .p) r refl refl (l .if1 .left)
+    (λ z e. ⊎-elim (λ w. w .4 .left (e ∙ sym (w .3 .ensures))) (λ w. w .left z) (j .if2 .came))
+    (p .put .ensures)
+
+pub step-spec : {M : Type 1} → statement M
+step-spec =
+    tie.close
+    (tie.spec
+    shared-slice-read-a
+    returns
+    cast-k
+    sub-k
+    mul-line
+    element-copy-out-line
+    mul-if2
+    element-copy-out-if2
+    mul-if3
+    element-copy-out-if3
+    cast-if3
+    sub-if3
+    shared-slice-read-if3
+    undo-requires
+    cut-requires
+    same-length
+    same-length-2
+    returns-2
+    put-requires
+    same-length-3
+    same-length-4
+    returns-3)

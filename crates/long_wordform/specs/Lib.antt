@@ -1,2 +1,0 @@
-pub mod Forming
-pub mod FormingLaws

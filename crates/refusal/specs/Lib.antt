@@ -1,4 +1,0 @@
-pub mod Line
-pub mod Search
-pub mod SearchLaws
-pub mod LineLaws

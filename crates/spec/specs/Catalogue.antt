@@ -1,0 +1,102 @@
+-- The catalogue's layout, and lines 1 to 6 of document 01's table over any bytes.
+-- Byte 0 is N, byte 1 is R, then N heads, then R records of two bytes: a command and the index of the next record.
+use Prim.Native.Nat.{ℕ, zero, suc, _+_, _*_}
+use mathlib.Core.Bool.{Bool, true, false, not, _||_}
+use mathlib.Core.List.{List, [], _∷_}
+use mathlib.Core.Option.{Option, none, some}
+use lib.ListN.{length, getD}
+use lib.Dec.{leb, ltb, eqb}
+use Rattle.spec.specs.Table.{Line, line, holds}
+use Rattle.spec.specs.Table.{firstOf, lineAt}
+
+-- N and R
+abbrev pub commands : List ℕ → ℕ
+commands c = getD c 0 0
+
+abbrev pub records : List ℕ → ℕ
+records c = getD c 1 0
+
+-- the places of the head of command a, and of the two bytes of record j; commands and records are numbered from 1
+abbrev pub headPlace : ℕ → ℕ
+headPlace a = 1 + a
+
+abbrev pub commandPlace : List ℕ → ℕ → ℕ
+commandPlace c j = commands c + 2 * j
+
+abbrev pub nextPlace : List ℕ → ℕ → ℕ
+nextPlace c j = commands c + 2 * j + 1
+
+-- the head of command a; a number above N is no command and has no chain
+abbrev pub head-step : Bool → ℕ → ℕ
+head-step true h = h
+head-step false h = 0
+
+abbrev pub head : List ℕ → ℕ → ℕ
+head c a = head-step (leb a (commands c)) (getD c (headPlace a) 0)
+
+abbrev pub command : List ℕ → ℕ → ℕ
+command c j = getD c (commandPlace c j) 0
+
+abbrev pub next : List ℕ → ℕ → ℕ
+next c j = getD c (nextPlace c j) 0
+
+-- does the chain from index i reach index 0 within n records
+unfoldable pub ends : List ℕ → ℕ → ℕ → Bool
+ends c zero zero = true
+ends c zero (suc i) = false
+ends c (suc n) zero = true
+ends c (suc n) (suc i) = ends c n (next c (suc i))
+
+-- the commands that stand in the chain from index i, of at most n records
+unfoldable pub follow : List ℕ → ℕ → ℕ → List ℕ
+follow c zero i = []
+follow c (suc n) zero = []
+follow c (suc n) (suc i) = command c (suc i) ∷ follow c n (next c (suc i))
+
+-- the commands in the chain of command a; R records are enough (CatalogueLaws, ends-enough)
+abbrev pub chain : List ℕ → ℕ → List ℕ
+chain c a = follow c (records c) (head c a)
+
+unfoldable pub stands : ℕ → List ℕ → Bool
+stands a [] = false
+stands a (b ∷ bs) = eqb a b || stands a bs
+
+-- line 1: under 2 bytes, or not 2 + N + 2R
+abbrev pub sizeLine : List ℕ → Option Line
+sizeLine c = holds (ltb (length c) 2 || not (eqb (length c) (2 + commands c + 2 * records c))) (line 1 0 0)
+
+-- line 2: N above 24
+abbrev pub countLine : List ℕ → Option Line
+countLine c = holds (ltb 24 (commands c)) (line 2 0 0)
+
+abbrev pub orIf : Option Line → Option Line → Option Line
+orIf none o = o
+orIf (some l) o = some l
+
+-- line 3: the first head or next index above R
+abbrev pub headLine : List ℕ → Option Line
+headLine c = lineAt 3 0 headPlace (firstOf (λ a. ltb (records c) (head c a)) (commands c) 1)
+
+abbrev pub nextLine : List ℕ → Option Line
+nextLine c = lineAt 3 0 (nextPlace c) (firstOf (λ j. ltb (records c) (next c j)) (records c) 1)
+
+abbrev pub indexLine : List ℕ → Option Line
+indexLine c = orIf (headLine c) (nextLine c)
+
+-- line 4: the first record whose command is 0 or above N
+abbrev pub recordLine : List ℕ → Option Line
+recordLine c =
+    lineAt 4 0 (commandPlace c)
+    (firstOf (λ j. eqb (command c j) 0 || ltb (commands c) (command c j)) (records c) 1)
+
+-- line 5: the first command whose chain doesn't end
+abbrev pub endlessLine : List ℕ → Option Line
+endlessLine c = lineAt 5 0 headPlace (firstOf (λ a. not (ends c (records c) (head c a))) (commands c) 1)
+
+-- line 6: the first command that stands in its own chain
+abbrev pub ownLine : List ℕ → Option Line
+ownLine c = lineAt 6 0 headPlace (firstOf (λ a. stands a (chain c a)) (commands c) 1)
+
+-- lines 1 to 6, in the table's order
+abbrev pub catalogueLines : List ℕ → List (Option Line)
+catalogueLines c = sizeLine c ∷ countLine c ∷ indexLine c ∷ recordLine c ∷ endlessLine c ∷ ownLine c ∷ []

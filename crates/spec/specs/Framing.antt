@@ -1,0 +1,56 @@
+-- Document 01's input of the program loops: a catalogue, whose length its first two bytes tell, then for each of two
+-- plans a count in two bytes, low byte first, and that many bytes; nothing after, and at most 4,096 bytes in all.
+use Prim.Native.Nat.{ℕ, _+_, _*_, _≤_}
+use mathlib.Core.Path.{_≡_}
+use mathlib.Core.Bool.{Bool, true, false, _&&_}
+use mathlib.Core.List.{List, _∷_, _++_}
+use lib.ListN.{length, getD, take, drop}
+use lib.Dec.{leb, eqb}
+
+-- the length that its first two bytes give a catalogue: 2 + N + 2R
+abbrev pub catalogueLength : List ℕ → ℕ
+catalogueLength s = 2 + getD s 0 0 + 2 * getD s 1 0
+
+-- a plan behind its count in two bytes, low byte first
+pub data Counted : List ℕ → List ℕ → Type 0 where
+  counted : {low high : ℕ} {v : List ℕ} → length v ≡ low + 256 * high → Counted v (low ∷ high ∷ v)
+
+-- the input s is this catalogue and these two plans, well framed
+pub record Framed (s c v w : List ℕ) : Type 0 where
+  pub first : List ℕ
+  pub second : List ℕ
+  pub bytes : s ≡ c ++ first ++ second
+  pub catalogue : length c ≡ catalogueLength c
+  pub plan1 : Counted v first
+  pub plan2 : Counted w second
+  pub limit : length s ≤ 4096
+
+-- The same by computing; a byte past the end counts as 0.
+
+-- the count at place i, the plan behind it, and where that ends
+abbrev pub countAt : List ℕ → ℕ → ℕ
+countAt s i = getD s i 0 + 256 * getD s (i + 1) 0
+
+abbrev pub planAt : List ℕ → ℕ → List ℕ
+planAt s i = take (countAt s i) (drop (i + 2) s)
+
+abbrev pub planEnd : List ℕ → ℕ → ℕ
+planEnd s i = i + 2 + countAt s i
+
+-- where the count of the second plan stands; that of the first stands where the catalogue ends
+abbrev pub secondPlace : List ℕ → ℕ
+secondPlace s = planEnd s (catalogueLength s)
+
+-- the parts make up the whole input, which is not too long
+abbrev pub wellFramed : List ℕ → Bool
+wellFramed s = leb (length s) 4096 && eqb (planEnd s (secondPlace s)) (length s)
+
+-- the parts of a well framed input
+abbrev pub catalogueOf : List ℕ → List ℕ
+catalogueOf s = take (catalogueLength s) s
+
+abbrev pub plan1Of : List ℕ → List ℕ
+plan1Of s = planAt s (catalogueLength s)
+
+abbrev pub plan2Of : List ℕ → List ℕ
+plan2Of s = planAt s (secondPlace s)

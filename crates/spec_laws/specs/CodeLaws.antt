@@ -1,0 +1,53 @@
+-- No length that a call answers is above what is handed in or above 49,152, so that its number fits.
+use Prim.Native.Nat.{ℕ, _+_, _*_, _≤_}
+use mathlib.Core.Path.{_≡_, sym, _∙_, ap}
+use mathlib.Core.List.{List, [], _∷_, _++_}
+use mathlib.Core.Option.{Option, none, some}
+use native.Mathlib.Omega.{arith}
+use native.Mathlib.Nat.{mul-le-mul-left, mul-le-mul-right}
+use lib.ListN.{length}
+use Rattle.spec.specs.Table.{Answer, given, firstLine}
+use Rattle.spec_laws.specs.TableLaws.{none-left, none-right}
+use Rattle.spec.specs.Catalogue.{commands, catalogueLines}
+use Rattle.spec.specs.Plan.{planLines}
+use Rattle.spec_laws.specs.PlanLaws.{lines-pass}
+use Rattle.spec.specs.Letters.{normalForm}
+use Rattle.spec_laws.specs.NormalFormLaws.{normal-length}
+use Rattle.spec.specs.declared.Written.{Written}
+use Rattle.spec.specs.declared.Written.the-variants.{Length}
+use Rattle.spec.specs.Answers.{toldWritten}
+use Rattle.spec.specs.Calls.{planLimit, areaLine, normalFormLines, normalFormAnswer}
+use Rattle.spec_laws.specs.CallLaws.{answer-given, few-commands}
+use Rattle.spec.specs.Loops.{leadInRoom, leadInLimit, unsettledLine, loopsLines, Looped, refuses, apart, joined}
+
+pub written-length : (c v area : List ℕ) {r : Written} (l : ℕ)
+    → toldWritten r ≡ normalFormAnswer c v area → r ≡ Length l → l ≤ length v
+written-length c v area l e k =
+    let o = firstLine (normalFormLines c v area) in
+    let h = answer-given o (length (normalForm c v)) l (sym e ∙ ap toldWritten k) in
+    omega (arith, normal-length c v, h .1)
+
+-- the room of a lead-in between plans that no line refuses
+room-limit : (c v w area : List ℕ) → firstLine (loopsLines c v w area) ≡ none → leadInRoom c v w ≤ leadInLimit
+room-limit c v w area e =
+    let n = commands c in
+    let ls = catalogueLines c ++ planLines 1 planLimit n v in
+    let late = areaLine 0 (leadInRoom c v w) area ∷ unsettledLine 1 c v ∷ unsettledLine 2 c w ∷ [] in
+    let both : firstLine (ls ++ planLines 2 planLimit n w) ≡ none =
+    none-left (ls ++ planLines 2 planLimit n w) late e
+    in
+    let one : firstLine ls ≡ none = none-left ls (planLines 2 planLimit n w) both in
+    let k = few-commands c (none-left (catalogueLines c) (planLines 1 planLimit n v) one) in
+    let i = lines-pass 1 planLimit n v .0 (none-right (catalogueLines c) (planLines 1 planLimit n v) one) .0 in
+    let j = lines-pass 2 planLimit n w .0 (none-right ls (planLines 2 planLimit n w) both) .0 in
+    let a : n * (length v + length w) ≤ n * 2048 = mul-le-mul-left n (omega arith) in
+    let b : n * 2048 ≤ 24 * 2048 = mul-le-mul-right 2048 k in
+    omega arith
+
+pub looped-length : {c v w area after : List ℕ} {t : Answer (Option ℕ)} (l : ℕ) → Looped c v w area t after
+    → t ≡ given (some l) → l ≤ leadInLimit
+looped-length l (refuses e) k = absurd (let z : _≡_ {A = ℕ} 0 1 = cc in omega arith)
+looped-length l (apart e d) k = absurd (let z : _≡_ {A = ℕ} 0 1 = cc in omega arith)
+looped-length {c} {v} {w} {area} l (joined {u} e d h) k =
+    let m : length u ≡ l = cc in
+    omega (arith, m, h .short, room-limit c v w area e)

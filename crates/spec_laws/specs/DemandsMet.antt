@@ -1,0 +1,158 @@
+-- The demands are met: each is one value of its statement in the crate spec.
+use Prim.Native.Nat.{ℕ, _≤_}
+use mathlib.Core.Path.{_≡_, refl, sym, _∙_, ap}
+use mathlib.Core.Bool.{Bool, true}
+use mathlib.Core.List.{List, [], _∷_, _++_}
+use mathlib.Core.Option.{Option, none, some}
+use mathlib.Core.Logic.{_↔_}
+use native.Mathlib.Omega.{arith}
+use lib.ListN.{length, take, drop}
+use lib.Seq.{take-at, take-append-seam, drop-append-seam}
+use Rattle.spec.specs.Table.{Line, refused, given, firstLine, orElse}
+use Rattle.spec.specs.Table.{NoneHolds, FirstHolds}
+use Rattle.spec_laws.specs.TableLaws.{none-holds, first-holds, none-left, none-right}
+use Rattle.spec.specs.Catalogue.{commands, catalogueLines}
+use Rattle.spec.specs.Plan.{planLines, Passing}
+use Rattle.spec_laws.specs.PlanLaws.{lines-pass, passing-append}
+use Rattle.spec.specs.Letters.{normalForm}
+use Rattle.spec_laws.specs.NormalFormLaws.{normal-equal, normal-least, normal-first, equal-normal}
+use Rattle.spec.specs.Step.{Equal}
+use Rattle.spec.specs.Demands.{Demand1, Demand2, Demand3, Shortest, Exact}
+use Rattle.spec.specs.Calls.{planLimit, areaLine, areaAfter, normalFormLines, normalFormAnswer, normalFormArea, equalLines, equalAnswer, sameBytes}
+use Rattle.spec.specs.Answers.{Checked}
+use Rattle.spec.specs.Loops.{Looped, apart, joined, LeadIn, checkLines, checkAnswer}
+use Rattle.spec_laws.specs.LoopLaws.{loops-pass, none-joins, none-some, check-pass}
+use Rattle.spec.specs.Join.{Joins}
+use Rattle.spec_laws.specs.JoinLaws.{joins-check}
+use Rattle.spec_laws.specs.CallLaws.{answer-refused, answer-given, few-commands, same-bytes}
+
+-- Demand 1
+
+refused-exactly : {A : Type 0} (ls : List (Option Line)) (a : A) (l : Line)
+    → (orElse (firstLine ls) a ≡ refused l) ↔ FirstHolds l ls
+refused-exactly ls a l = (
+  λ e. first-holds ls l .0 (answer-refused (firstLine ls) a l .0 e),
+  λ f. answer-refused (firstLine ls) a l .1 (first-holds ls l .1 f),
+)
+
+given-exactly : {A : Type 0} (ls : List (Option Line)) (a : A) → (orElse (firstLine ls) a ≡ given a) ↔ NoneHolds ls
+given-exactly ls a = (
+  λ e. none-holds ls .0 (answer-given (firstLine ls) a a e .0),
+  λ n. rw (none-holds ls .1 n),
+)
+
+refused-untouched : (ls : List (Option Line)) (bytes area : List ℕ) {l : Line} → FirstHolds l ls
+    → areaAfter (firstLine ls) bytes area ≡ area
+refused-untouched ls bytes area {l} f = rw (first-holds ls l .1 f)
+
+pub demand-1 : Demand1
+demand-1 = record { refused-exactly = refused-exactly; given-exactly = given-exactly; untouched = refused-untouched }
+
+-- Demand 2
+
+equal-demand : (c v w : List ℕ) (b : Bool) → equalAnswer c v w ≡ given b → (b ≡ true) ↔ Equal c v w
+equal-demand c v w b e = (
+  λ t. same .1 (same-bytes (normalForm c v) (normalForm c w) .0 (told .1 ∙ t)),
+  λ q. sym (told .1) ∙ same-bytes (normalForm c v) (normalForm c w) .1 (same .0 q),
+)
+  where
+    told : (firstLine (equalLines c v w) ≡ none) × (sameBytes (normalForm c v) (normalForm c w) ≡ b)
+    told = answer-given (firstLine (equalLines c v w)) (sameBytes (normalForm c v) (normalForm c w)) b e
+
+    same : (Equal c v w) ↔ (normalForm c v ≡ normalForm c w)
+    same =
+        let ps : List (Option Line) = catalogueLines c ++ planLines 1 planLimit (commands c) v in
+        let q : firstLine (planLines 2 planLimit (commands c) w) ≡ none =
+        none-right ps (planLines 2 planLimit (commands c) w) (told .0) in
+        let p : firstLine (planLines 1 planLimit (commands c) v) ≡ none =
+        none-right (catalogueLines c) (planLines 1 planLimit (commands c) v)
+        (none-left ps (planLines 2 planLimit (commands c) w) (told .0)) in
+        equal-normal c v w (lines-pass 1 planLimit (commands c) v .0 p .1)
+        (lines-pass 2 planLimit (commands c) w .0 q .1)
+
+normal-form-demand : (c v area : List ℕ) (l : ℕ) → normalFormAnswer c v area ≡ given l
+    → (length (take l (normalFormArea c v area)) ≡ l) × Shortest c v (take l (normalFormArea c v area))
+normal-form-demand c v area l e =
+    let z : take l (normalFormArea c v area) ≡ normalForm c v =
+    rw (told .0) (take-at (normalForm c v) (drop (length (normalForm c v)) area) l (told .1)) in
+    rw z (
+      told .1,
+      record {
+        equal = normal-equal c v passing;
+        least = λ x q. normal-least c x v q;
+        first = λ x q. normal-first c x v few q;
+      },
+    )
+  where
+    told : (firstLine (normalFormLines c v area) ≡ none) × (length (normalForm c v) ≡ l)
+    told = answer-given (firstLine (normalFormLines c v area)) (length (normalForm c v)) l e
+
+    early : firstLine (catalogueLines c ++ planLines 1 planLimit (commands c) v) ≡ none
+    early =
+        none-left (catalogueLines c ++ planLines 1 planLimit (commands c) v) (areaLine 0 (length v) area ∷ []) (told .0)
+
+    passing : Passing (commands c) v
+    passing =
+        lines-pass 1 planLimit (commands c) v
+        .0 (none-right (catalogueLines c) (planLines 1 planLimit (commands c) v) early)
+        .1
+
+    few : commands c ≤ 127
+    few = omega (arith, few-commands c (none-left (catalogueLines c) (planLines 1 planLimit (commands c) v) early))
+
+pub demand-2 : Demand2
+demand-2 = record { equal = equal-demand; normal-form = normal-form-demand }
+
+-- Demand 3
+
+loops-demand : {c v w area after : List ℕ} {o : Option ℕ} → Looped c v w area (given o) after → Exact c v w o
+loops-demand {c} {v} {w} {area} (apart e d) =
+    let no : (u : List ℕ) → ¬ Joins c v w u = none-joins c v w (loops-pass c v w area e) d in
+    record {
+      joined = (λ h. absurd (none-some (h .1)), λ h. absurd (no (h .0) (h .1)));
+      apart = (λ h. no, λ h. refl);
+    }
+loops-demand (joined {u = u} e d l) =
+    record {
+      joined = (λ h. (u, l .joins), λ h. (length u, refl));
+      apart = (λ h. absurd (none-some (sym h)), λ h. absurd (h u (l .joins)));
+    }
+
+lead-in-demand : {c v w area after : List ℕ} {l : ℕ} → Looped c v w area (given (some l)) after
+    → (length (take l after) ≡ l) × LeadIn c v w (take l after) × (drop l after ≡ drop l area)
+lead-in-demand {area = area} (joined {u = u} e d l) =
+    rw (take-append-seam u (drop (length u) area), drop-append-seam u (drop (length u) area)) (refl, l, refl)
+
+check-demand : (c v w u area0 area1 : List ℕ) (k : Checked) → checkAnswer c v w u area0 area1 ≡ given k
+    → (k .yes ≡ true) ↔ Joins c v w u
+check-demand c v w u area0 area1 k e = (
+  λ t. joins .1 (equal .1 (same-bytes vu uw .0 (ap (λ x. x .yes) (told .1) ∙ t))),
+  λ j. sym (ap (λ x. x .yes) (told .1)) ∙ same-bytes vu uw .1 (equal .0 (joins .0 j)),
+)
+  where
+    vu : List ℕ
+    vu = normalForm c (v ++ u)
+
+    uw : List ℕ
+    uw = normalForm c (u ++ w)
+
+    result : Checked
+    result = record { yes = sameBytes vu uw; vu = length vu; uw = length uw }
+
+    told : (firstLine (checkLines c v w u area0 area1) ≡ none) × (result ≡ k)
+    told = answer-given (firstLine (checkLines c v w u area0 area1)) result k e
+
+    pass : (Passing (commands c) v × Passing (commands c) w) × Passing (commands c) u
+    pass = check-pass c v w u area0 area1 (told .0)
+
+    joins : (Joins c v w u) ↔ (Equal c (v ++ u) (u ++ w))
+    joins = joins-check c v w u (pass .0 .0) (pass .0 .1) (pass .1)
+
+    equal : (Equal c (v ++ u) (u ++ w)) ↔ (vu ≡ uw)
+    equal =
+        equal-normal c (v ++ u) (u ++ w)
+        (passing-append (commands c) v u (pass .0 .0) (pass .1))
+        (passing-append (commands c) u w (pass .1) (pass .0 .1))
+
+pub demand-3 : Demand3
+demand-3 = record { loops = loops-demand; lead-in = lead-in-demand; check = check-demand }

@@ -1,0 +1,18 @@
+-- Laws of the definitions of the crate spec; the demands, each proved as a value of its statement (DemandsMet), and the
+-- starred cases (CasesHold).
+pub mod TableLaws
+pub mod SearchLaws
+pub mod CatalogueLaws
+pub mod ConflictLaws
+pub mod PlanLaws
+pub mod CommandLaws
+pub mod LettersLaws
+pub mod StepLaws
+pub mod OrderLaws
+pub mod NormalFormLaws
+pub mod JoinLaws
+pub mod CallLaws
+pub mod LoopLaws
+pub mod CodeLaws
+pub mod DemandsMet
+pub mod CasesHold

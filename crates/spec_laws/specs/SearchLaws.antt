@@ -1,0 +1,75 @@
+-- Laws of the search for the first number that passes a test, with the invariant of a loop that does such a search;
+-- and what a check that passes, or is refused, tells of its line.
+use Prim.Native.Nat.{ℕ, zero, suc, _+_, _-_, _≤_, _<_}
+use native.Mathlib.Decide.{ℕ-discrete}
+use native.Mathlib.Numerals.{add-one}
+use native.Mathlib.Omega.{arith}
+use mathlib.Core.Path.{_≡_, refl, sym, _∙_, ap}
+use mathlib.Core.Bool.{Bool, true, false}
+use mathlib.Core.Option.{Option, none, some}
+use Rattle.spec.specs.Table.{Line, refused, given, orElse}
+use Rattle.spec.specs.Table.{firstOf, found-step}
+
+none-not : {A : Type 0} {a : A} → some a ≡ none → ⊥
+none-not e = let z : _≡_ {A = ℕ} 0 1 = cc in omega arith
+
+given-not : {A : Type 0} {a : A} {l : Line} → given a ≡ refused l → ⊥
+given-not e = let z : _≡_ {A = ℕ} 0 1 = cc in omega arith
+
+module _ (p : ℕ → Bool) where
+  -- a search of n numbers from s has come to i and passed all before it
+  pub record Searching (n s i : ℕ) : Type 0 where
+    pub low : s ≤ i
+    pub high : i ≤ s + n
+    pub rest : firstOf p n s ≡ firstOf p (s + n - i) i
+
+  pub search-start : (n s : ℕ) → Searching n s s
+  search-start n s = record { low = omega arith; high = omega arith; rest = ap (λ k. firstOf p k s) (omega arith) }
+
+  left : {n s i : ℕ} → Searching n s i → i < s + n → s + n - i ≡ suc (s + n - (i + 1))
+  left g h = omega arith
+
+  pub search-again : {n s i : ℕ} → Searching n s i → i < s + n → p i ≡ false → Searching n s (i + 1)
+  unfolding firstOf
+  search-again {n} {s} {i} g h f =
+      record {
+        low = omega (arith, g .low);
+        high = omega arith;
+        rest = g .rest ∙ ap (λ k. firstOf p k i) (left g h) ∙ rw (f, add-one);
+      }
+
+  pub search-hit : {n s i : ℕ} → Searching n s i → i < s + n → p i ≡ true → firstOf p n s ≡ some i
+  unfolding firstOf
+  search-hit {n} {s} {i} g h t = g .rest ∙ ap (λ k. firstOf p k i) (left g h) ∙ rw t
+
+  pub search-end : {n s i : ℕ} → Searching n s i → s + n ≤ i → firstOf p n s ≡ none
+  unfolding firstOf
+  search-end {n} {s} {i} g h =
+      let e : s + n - i ≡ 0 = omega arith in
+      g .rest ∙ ap (λ k. firstOf p k i) e
+
+  miss : (b : Bool) (i : ℕ) {o : Option ℕ} → found-step b i o ≡ none → (b ≡ false) × (o ≡ none)
+  miss true i e = absurd (none-not e)
+  miss false i e = (refl, e)
+
+  -- a search that finds nothing has seen every number fail
+  pub search-none : (n s : ℕ) → firstOf p n s ≡ none → (i : ℕ) → s ≤ i → i < s + n → p i ≡ false
+  unfolding firstOf
+  search-none zero s e i l h = absurd (omega arith)
+  search-none (suc n) s e i l h =
+      let m = miss (p s) s e in
+      go (ℕ-discrete i s) (m .0) (λ q. search-none n (suc s) (m .1) i q (omega arith))
+    where
+      go : Dec (i ≡ s) → p s ≡ false → (s < i → p i ≡ false) → p i ≡ false
+      go (yes q) f later = ap p q ∙ f
+      go (no q) f later = later (omega arith)
+
+module _ {A : Type 0} where
+  -- a check that passes tells that its line does not hold, one that is refused that it does
+  pub passed-line : (o : Option Line) {a : A} (b : A) → given a ≡ orElse o b → o ≡ none
+  passed-line none b e = refl
+  passed-line (some l) b e = absurd (given-not e)
+
+  pub refused-line : (o : Option Line) {l : Line} (b : A) → refused l ≡ orElse o b → o ≡ some l
+  refused-line none b e = absurd (given-not (sym e))
+  refused-line (some k) b e = cc
