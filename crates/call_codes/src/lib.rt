@@ -1,5 +1,5 @@
-// The numbers that the table gives the reasons of refusals, and those that a C caller gets for the answers of the calls.
-// spec/specs/Table.antt and spec/specs/Codes.antt define them.
+// The numbers that the table gives the reasons of refusals, and those that a C caller gets for the answers of the
+// calls. spec/specs/Table.antt and spec/specs/Codes.antt define them.
 
 ghost use Prim.Native.Nat.{ℕ, _+_, _<_, _^_};
 ghost use mathlib.Core.Path.{_≡_};

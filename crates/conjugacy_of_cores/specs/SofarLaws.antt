@@ -4,8 +4,7 @@ use native.Mathlib.Omega.{arith}
 use native.Mathlib.Nat.{mul-le-mul-left, mul-add, add-mul}
 use mathlib.Core.Path.{_≡_, refl, sym, _∙_, ap, subst}
 use mathlib.Core.Bool.{true, false}
-use mathlib.Core.List.{List, [], _∷_, _++_, append-assoc, append-nil, Memᴰ·append-left}
-use mathlib.Core.List.{List·Memᴰ·head, List·Memᴰ·tail}
+use mathlib.Core.List.{List, [], _∷_, _++_, append-assoc, append-nil, Memᴰ·append-left, List·Memᴰ·head, List·Memᴰ·tail}
 use lib.ListN.{length, take, length-append}
 use Rattle.theory_words.specs.BoolLaws.{and-both}
 use Rattle.theory_words.specs.All.{all-map}
@@ -24,8 +23,7 @@ use Rattle.theory_conjugacy.specs.JoinLaws.{parts-lead-length}
 use Rattle.conjugacy_of_parts.specs.declared.Outcome.{Outcome}
 use Rattle.conjugacy_of_parts.specs.declared.Outcome.the-variants.{Joined, Apart, Unsettled}
 use Rattle.conjugacy_of_parts.specs.Lead.{Led, Leads, Stops}
-use Rattle.conjugacy_of_cores.specs.Pair.{apexAt, partsOf, apexesFrom, Leadable, Placeable}
-use Rattle.conjugacy_of_cores.specs.Pair.{Sofar}
+use Rattle.conjugacy_of_cores.specs.Pair.{apexAt, partsOf, apexesFrom, Leadable, Placeable, Sofar}
 use Rattle.conjugacy_of_cores.specs.ApexLaws.{shares-append, joined-append, lead-append, apexes-from}
 
 -- no lead-in yet

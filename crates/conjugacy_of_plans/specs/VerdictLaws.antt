@@ -18,8 +18,7 @@ use Rattle.theory_conjugacy.specs.Core.{core}
 use Rattle.theory_conjugacy.specs.ConjugateLaws.{conjugate-cores, cores-conjugate}
 use Rattle.theory_conjugacy.specs.Part.{apexes}
 use Rattle.theory_conjugacy.specs.Decision.{cores-joined?, joined?}
-use Rattle.theory_conjugacy.specs.DecisionLaws.{turns-joined, cores-lead}
-use Rattle.theory_conjugacy.specs.DecisionLaws.{conjugate-joined, lead-in-conj}
+use Rattle.theory_conjugacy.specs.DecisionLaws.{turns-joined, cores-lead, conjugate-joined, lead-in-conj}
 use Rattle.theory_conjugacy.specs.LeadIn.{parts-lead, lead-in}
 use Rattle.theory_conjugacy.specs.LeadInLaws.{all-undo}
 

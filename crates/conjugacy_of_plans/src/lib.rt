@@ -10,11 +10,9 @@ use long_form::form;
 ghost use Prim.Native.Nat.{ℕ, _≤_, _+_, _*_};
 ghost use mathlib.Core.List.{List};
 ghost use lib.ListN.{length};
-ghost use Rattle.conjugacy_of_plans.specs.Join.{Cores, crossRoom, LeadsWord, Crossable, Crossed};
+ghost use Rattle.conjugacy_of_plans.specs.Join.{Cores, crossRoom, LeadsWord, Crossable, Crossed, Plans, Told};
 use conjugacy_ring::sheet;
 use piling_form::form_of;
-ghost use Rattle.conjugacy_of_plans.specs.Join.{Plans, Told};
-
 // The lead-in as a word in the row: the letters g taken off the first plan, the lead-in from core x to core y, and the
 // letters h taken off the second plan, undone.
 fn lead(

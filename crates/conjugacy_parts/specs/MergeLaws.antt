@@ -14,7 +14,8 @@ use lib.Seq.{getD-set-same, getD-set-other, drop-cons}
 use Rattle.input_conflicts.specs.Conflicts.{bit}
 use Rattle.spec.specs.Conflict.{conflict}
 use Rattle.spec.specs.Letters.{alphabet}
-use Rattle.theory_conjugacy.specs.Part.{chosen-step, relabel-step, relabel, merge-step, merge, merge-row, merge-all, labels}
+use Rattle.theory_conjugacy.specs.Part.{chosen-step, relabel-step, relabel, merge-step, merge, merge-row, merge-all}
+use Rattle.theory_conjugacy.specs.Part.{labels}
 use Rattle.conjugacy_parts.specs.Flags.{Flags, LabelsOf}
 use Rattle.conjugacy_parts.specs.FlagsLaws.{flags-list}
 use Rattle.conjugacy_parts.specs.Merge.{Relabelled, flaggedAt, flagged}

@@ -22,7 +22,8 @@ use Rattle.theory_conjugacy.specs.SettleLaws.{split-unique}
 use Rattle.conjugacy_settling.specs.declared.Halves.{Halves}
 use Rattle.array_sets.specs.Sets.{Clear, Meeting, empty}
 use Rattle.array_sets.specs.SetsLaws.{empty-meeting}
-use Rattle.conjugacy_settling.specs.MarksLaws.{Marks, marks-none, marks-add, conflicts-table, clear-meets, meets-clear}
+use Rattle.conjugacy_settling.specs.MarksLaws.{Marks, marks-none, marks-add, conflicts-table, clear-meets}
+use Rattle.conjugacy_settling.specs.MarksLaws.{meets-clear}
 use Rattle.conjugacy_settling.specs.Halving.{Place, lineOf, Placed, below, above, Splittable, Over, Halved}
 
 -- bytes written over the front of an array

@@ -7,7 +7,8 @@ use lib.ListN.{length}
 use Rattle.spec.specs.Table.{Line, orElse}
 use Rattle.input_catalogue.specs.Checked.{toldChecked}
 use Rattle.input_catalogue.specs.declared.Checked.{Checked}
-use Rattle.spec.specs.Catalogue.{commands, records, head, command, next, orIf, sizeLine, countLine, headLine, nextLine, recordLine}
+use Rattle.spec.specs.Catalogue.{commands, records, head, command, next, orIf, sizeLine, countLine, headLine, nextLine}
+use Rattle.spec.specs.Catalogue.{recordLine}
 
 -- lines 1 and 2 together
 abbrev pub frameLine : List ℕ → Option Line

@@ -9,9 +9,8 @@ use lib.ListN.{length, getD}
 use lib.Dec.{ltb, eqb}
 use borrow.Author.Tests.{lt-ltb, le-ltb, eq-eqb, ne-eqb, le-leb, ltb-false, eqb-true, eqb-false, not-false}
 use Rattle.theory_words.specs.BoolLaws.{or-neither}
-use Rattle.spec.specs.Table.{Line, line, refused, orElse, holds}
+use Rattle.spec.specs.Table.{Line, line, refused, orElse, holds, lineAt}
 use Rattle.input_catalogue.specs.Checked.{toldChecked}
-use Rattle.spec.specs.Table.{lineAt}
 use Rattle.spec_laws.specs.SearchLaws.{search-none, passed-line, refused-line}
 use Rattle.spec.specs.declared.Refusal.{Refusal}
 use Rattle.input_catalogue.specs.declared.Checked.{Checked}

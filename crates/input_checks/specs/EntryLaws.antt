@@ -19,7 +19,8 @@ use Rattle.spec_laws.specs.PlanLaws.{lines-pass}
 use Rattle.spec.specs.Calls.{planLimit}
 use Rattle.spec_laws.specs.CallLaws.{few-commands}
 use Rattle.spec.specs.Loops.{leadInLimit}
-use Rattle.input_checks.specs.Entry.{Told, Entered, OnePlan, TwoPlans, ThreePlans, oneLines, twoLines, threeLines, SameRefusal}
+use Rattle.input_checks.specs.Entry.{Told, Entered, OnePlan, TwoPlans, ThreePlans, oneLines, twoLines, threeLines}
+use Rattle.input_checks.specs.Entry.{SameRefusal}
 
 -- a check whose told answer is known
 module _ (r : Checked) (o : Option Line) (a : ℕ) (t : toldChecked r ≡ orElse o a) where

@@ -4,10 +4,9 @@ use mathlib.Core.Path.{_≡_, refl}
 use mathlib.Core.Bool.{true, false}
 use mathlib.Core.List.{List, [], _∷_}
 use mathlib.Core.Option.{Option, none, some}
-use Rattle.spec.specs.Table.{Line, line, firstLine}
+use Rattle.spec.specs.Table.{Line, line, firstLine, firstOf}
 use Rattle.spec.specs.Catalogue.{ends, follow, stands, catalogueLines}
 use Rattle.spec.specs.Conflict.{conflict}
-use Rattle.spec.specs.Table.{firstOf}
 
 abbrev lineFor : List ℕ → Option Line
 lineFor c = firstLine (catalogueLines c)

@@ -9,7 +9,8 @@ use Rattle.spec_laws.specs.SearchLaws.{refused-line}
 use Rattle.spec.specs.declared.Refusal.{Refusal}
 use Rattle.input_catalogue.specs.declared.Checked.{Checked}
 use Rattle.input_catalogue.specs.declared.Checked.the-variants.{Passed, Refused}
-use Rattle.spec.specs.Catalogue.{commands, orIf, sizeLine, countLine, headLine, nextLine, recordLine, endlessLine, ownLine, catalogueLines}
+use Rattle.spec.specs.Catalogue.{commands, orIf, sizeLine, countLine, headLine, nextLine, recordLine, endlessLine}
+use Rattle.spec.specs.Catalogue.{ownLine, catalogueLines}
 use Rattle.input_conflicts.specs.Conflicts.{Conflicts}
 use Rattle.input_catalogue.specs.Sound.{frameLine, soundLine, Decides, Sound}
 use Rattle.input_catalogue.specs.SoundLaws.{framed-from, sound-from, some-none}

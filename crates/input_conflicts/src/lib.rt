@@ -8,7 +8,7 @@ ghost use mathlib.Core.Option.{none};
 ghost use Prim.Native.Nat.{_+_, _-_, _≤_};
 ghost use Rattle.spec.specs.Catalogue.{commands, records, head, ends, chain, endlessLine, ownLine};
 ghost use Rattle.input_catalogue.specs.Sound.{Decides, Framed, Sound};
-ghost use Rattle.input_conflicts.specs.Pairs.{Shape};
+ghost use Rattle.input_conflicts.specs.Pairs.{Shape, pair, pairs, note, notes, members, markedIf};
 ghost use Rattle.input_conflicts.specs.Marks.{Blank, Met, diagonal as diagonalOf};
 ghost use Rattle.input_conflicts.specs.Known.{NoneKnown, Chained, Known};
 ghost use Rattle.input_conflicts.specs.Reading.{Reading};
@@ -17,8 +17,6 @@ use input_catalogue::refused;
 use spec::Reason;
 ghost use mathlib.Core.List.{[]};
 ghost use lib.ListN.{getD};
-ghost use Rattle.input_conflicts.specs.Pairs.{Shape, pair, pairs, note, notes, members, markedIf};
-
 // Marks that two commands conflict, in the rows of both.
 fn mark(a: usize, b: usize, rows: &mut [[u16; 24]; 24])
     requires { ⌜ Shape (now rows) ⌝ ∗ ⌜ 1 ≤ a ⌝ ∗ ⌜ a ≤ 24 ⌝ ∗ ⌜ 1 ≤ b ⌝ ∗ ⌜ b ≤ 24 ⌝ }

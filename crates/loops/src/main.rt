@@ -1,5 +1,6 @@
 // Reads a catalogue and two plans from standard input and prints whether the two loops are joined, apart or refused.
-// specs/Program.antt says which answer an input gets, crate loops_framing what is well framed, crate loops_listing what is printed.
+// specs/Program.antt says which answer an input gets, crate loops_framing what is well framed, crate loops_listing what
+// is printed.
 
 ghost use mathlib.Core.Path.{_≡_};
 ghost use Prim.Native.Nat.{_≤_};

@@ -14,7 +14,8 @@ use borrow.Author.Tests.{le-leb, lt-leb, leb-true, eq-eqb, ne-eqb, eqb-true}
 use Rattle.theory_words.specs.BoolLaws.{and-both}
 use Rattle.loops_framing.specs.declared.Frame.the-variants.{Badly, Well}
 use Rattle.loops_framing.specs.declared.Places.{Places}
-use Rattle.spec.specs.Framing.{catalogueLength, Counted, counted, Framed, countAt, planAt, planEnd, secondPlace, wellFramed, catalogueOf, plan1Of, plan2Of}
+use Rattle.spec.specs.Framing.{catalogueLength, Counted, counted, Framed, countAt, planAt, planEnd, secondPlace}
+use Rattle.spec.specs.Framing.{wellFramed, catalogueOf, plan1Of, plan2Of}
 use Rattle.loops_framing.specs.Frame.{frame-step, frame}
 
 -- What the code's tests tell

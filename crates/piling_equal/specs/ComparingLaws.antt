@@ -13,7 +13,8 @@ use Rattle.theory_words.specs.Trace.{First}
 use Rattle.theory_words.specs.Group as Group
 use Rattle.theory_words.specs.Group.{Reduced, back, empty}
 use Rattle.theory_words.specs.Reduce.{act}
-use Rattle.theory_words.specs.ReduceLaws.{put, acts, act-is, act-falls, act-rises, act-shift, act-reduced, reduced-least}
+use Rattle.theory_words.specs.ReduceLaws.{put, acts, act-is, act-falls, act-rises, act-shift, act-reduced}
+use Rattle.theory_words.specs.ReduceLaws.{reduced-least}
 use Rattle.spec.specs.Catalogue.{commands}
 use Rattle.spec.specs.Byte.{commandOf, undone}
 use Rattle.spec.specs.AlphabetLaws.{command-undone}

@@ -9,8 +9,7 @@ use Rattle.theory_words.specs.Trace.{Pick, First}
 use Rattle.theory_words.specs.Reduce.{act}
 use Rattle.theory_words.specs.ReduceLaws.{cut, put, act-is, act-falls}
 use Rattle.theory_words.specs.Stack.{proj, mark}
-use Rattle.theory_words.specs.StackLaws.{proj-length}
-use Rattle.theory_words.specs.StackLaws.{stack-push, stack-pick, stack-first, stack-top}
+use Rattle.theory_words.specs.StackLaws.{proj-length, stack-push, stack-pick, stack-first, stack-top}
 use Rattle.spec.specs.Byte.{commandOf, undone}
 use Rattle.spec.specs.AlphabetLaws.{command-undone}
 use Rattle.spec.specs.Letters.{alphabet}

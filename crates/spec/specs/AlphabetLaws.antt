@@ -1,5 +1,5 @@
--- No definitions: the laws that the record of an alphabet asks for (Letters), of undoing and of conflicts. They hold for
--- every number, so also for those that no plan holds.
+-- No definitions: the laws that the record of an alphabet asks for (Letters), of undoing and of conflicts. They hold
+-- for every number, so also for those that no plan holds.
 use Prim.Native.Nat.{ℕ, _+_, _-_, _≤_, _<_}
 use mathlib.Core.Path.{_≡_, refl, sym, _∙_, ap, ap₂}
 use mathlib.Core.Bool.{Bool, true, false, _||_, and-false}

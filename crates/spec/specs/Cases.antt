@@ -1,5 +1,5 @@
--- Document 01's starred bench cases as one table, and the sentence that the definitions of the calls yield each row; the
--- crate spec_laws proves it (CasesHold).
+-- Document 01's starred bench cases as one table, and the sentence that the definitions of the calls yield each row;
+-- the crate spec_laws proves it (CasesHold).
 use Prim.Native.Nat.{ℕ}
 use mathlib.Core.Path.{_≡_}
 use mathlib.Core.Bool.{true, false}

@@ -6,8 +6,7 @@ use mathlib.Core.List.{List, [], _∷_}
 use mathlib.Core.Option.{Option, none, some}
 use lib.ListN.{length, getD}
 use lib.Dec.{leb, ltb, eqb}
-use Rattle.spec.specs.Table.{Line, line, holds}
-use Rattle.spec.specs.Table.{firstOf, lineAt}
+use Rattle.spec.specs.Table.{Line, line, holds, firstOf, lineAt}
 
 -- N and R
 abbrev pub commands : List ℕ → ℕ

@@ -45,9 +45,9 @@ pub record Exact (c v w : List ℕ) (o : Option ℕ) : Type 0 where
   pub joined : ((l : ℕ) × (o ≡ some l)) ↔ ((u : List ℕ) × Joins c v w u)
   pub apart : (o ≡ none) ↔ ((u : List ℕ) → ¬ Joins c v w u)
 
--- Demand 3. A loops call that is not refused answers exactly. With each joined pair comes a lead-in: it joins v to w, is
--- a normal form, has at most N(n + m) letters and fills the first L bytes of the area, which past them is as it was. A
--- lead-in check that is not refused says yes exactly if u joins v to w.
+-- Demand 3. A loops call that is not refused answers exactly. With each joined pair comes a lead-in: it joins v to w,
+-- is a normal form, has at most N(n + m) letters and fills the first L bytes of the area, which past them is as it was.
+-- A lead-in check that is not refused says yes exactly if u joins v to w.
 pub record Demand3 : Type 0 where
   pub loops : {c v w area after : List ℕ} {o : Option ℕ} → Looped c v w area (given o) after → Exact c v w o
   pub lead-in : {c v w area after : List ℕ} {l : ℕ} → Looped c v w area (given (some l)) after
@@ -55,8 +55,8 @@ pub record Demand3 : Type 0 where
   pub check : (c v w u area0 area1 : List ℕ) (k : Checked) → checkAnswer c v w u area0 area1 ≡ given k
       → (k .yes ≡ true) ↔ Joins c v w u
 
--- The program's input is computed to be well framed exactly if it is some catalogue and two plans, well framed, and then
--- those are the parts that are computed.
+-- The program's input is computed to be well framed exactly if it is some catalogue and two plans, well framed, and
+-- then those are the parts that are computed.
 pub record FramingDemand : Type 0 where
   pub parts : (s : List ℕ) → wellFramed s ≡ true → Framed s (catalogueOf s) (plan1Of s) (plan2Of s)
   pub whole : {s c v w : List ℕ} → Framed s c v w

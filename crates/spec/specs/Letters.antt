@@ -8,9 +8,8 @@ use lib.Dec.{eqb}
 use Rattle.theory_words.specs.Alphabet.{Alphabet}
 use Rattle.theory_words.specs.Normal.{nf}
 use Rattle.spec.specs.Conflict.{conflict}
-use Rattle.spec.specs.AlphabetLaws.{conflict-refl, conflict-sym}
+use Rattle.spec.specs.AlphabetLaws.{conflict-refl, conflict-sym, undone-undone, command-undone}
 use Rattle.spec.specs.Byte.{commandOf, undone}
-use Rattle.spec.specs.AlphabetLaws.{undone-undone, command-undone}
 
 unfoldable pub letters-step : Bool → ℕ → List ℕ → List ℕ
 letters-step true b v = v

@@ -7,8 +7,7 @@ use mathlib.Core.List.{List, [], _∷_}
 use mathlib.Core.Option.{Option}
 use lib.ListN.{length, getD}
 use lib.Dec.{leb, ltb, eqb}
-use Rattle.spec.specs.Table.{Line, line, holds}
-use Rattle.spec.specs.Table.{firstOf, lineAt}
+use Rattle.spec.specs.Table.{Line, line, holds, firstOf, lineAt}
 
 abbrev pub within : ℕ → ℕ → ℕ → Bool
 within low high b = leb low b && leb b high

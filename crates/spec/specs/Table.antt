@@ -6,7 +6,9 @@ use mathlib.Core.Bool.{Bool, true, false}
 use mathlib.Core.List.{List, [], _∷_}
 use mathlib.Core.Option.{Option, none, some}
 use Rattle.spec.specs.declared.Reason.{Reason}
-use Rattle.spec.specs.declared.Reason.the-variants.{CatalogueSize, CommandCount, Index, RecordCommand, EndlessChain, OwnChain, PlanSize, PlanByte, AreaSize, Unsettled, Framing}
+use Rattle.spec.specs.declared.Reason.the-variants.{CatalogueSize, CommandCount, Index, RecordCommand}
+use Rattle.spec.specs.declared.Reason.the-variants.{EndlessChain, OwnChain, PlanSize, PlanByte, AreaSize}
+use Rattle.spec.specs.declared.Reason.the-variants.{Unsettled, Framing}
 use Rattle.spec.specs.declared.Refusal.{Refusal}
 
 -- number, plan and place, as the table's first column has them

@@ -3,11 +3,13 @@ use mathlib.Core.Path.{refl}
 use native.Mathlib.Decide.{ℕ-discrete}
 use Rattle.spec.specs.Table.{firstOf}
 use Rattle.theory_words.specs.Reduce.{without-step, without, act-step, act, reduce}
-use Rattle.theory_words.specs.Normal.{meets-step, meets, firsts-step, firsts, least-step, least, rest, lex-step, lex, nf}
+use Rattle.theory_words.specs.Normal.{meets-step, meets, firsts-step, firsts, least-step, least, rest, lex-step, lex}
+use Rattle.theory_words.specs.Normal.{nf}
 use Rattle.theory_words.specs.Group.{undo}
 use Rattle.theory_conjugacy.specs.Core as Core
 use Rattle.theory_conjugacy.specs.Core.{without-last, between, pair-step, pair, peels-step, peels, core}
-use Rattle.theory_conjugacy.specs.Part.{insert-step, insert, chosen-step, chosen, relabel-step, relabel, merge-step, merge, merge-row, merge-all, labels, label, apexes, share, part}
+use Rattle.theory_conjugacy.specs.Part.{insert-step, insert, chosen-step, chosen, relabel-step, relabel, merge-step}
+use Rattle.theory_conjugacy.specs.Part.{merge, merge-row, merge-all, labels, label, apexes, share, part}
 use Rattle.theory_conjugacy.specs.Part as Part
 use Rattle.theory_conjugacy.specs.Filter.{filter-step, filter}
 use Rattle.theory_conjugacy.specs.Settle.{hit, raise, put, split, settled-step, settled, ring}

@@ -8,8 +8,7 @@ use mathlib.Core.Logic.{_↔_}
 use native.Mathlib.Omega.{arith}
 use lib.ListN.{length, take, drop}
 use lib.Seq.{take-at, take-append-seam, drop-append-seam}
-use Rattle.spec.specs.Table.{Line, refused, given, firstLine, orElse}
-use Rattle.spec.specs.Table.{NoneHolds, FirstHolds}
+use Rattle.spec.specs.Table.{Line, refused, given, firstLine, orElse, NoneHolds, FirstHolds}
 use Rattle.spec_laws.specs.TableLaws.{none-holds, first-holds, none-left, none-right}
 use Rattle.spec.specs.Catalogue.{commands, catalogueLines}
 use Rattle.spec.specs.Plan.{planLines, Passing}
@@ -18,7 +17,8 @@ use Rattle.spec.specs.Letters.{normalForm}
 use Rattle.spec_laws.specs.NormalFormLaws.{normal-equal, normal-least, normal-first, equal-normal}
 use Rattle.spec.specs.Step.{Equal}
 use Rattle.spec.specs.Demands.{Demand1, Demand2, Demand3, Shortest, Exact}
-use Rattle.spec.specs.Calls.{planLimit, areaLine, areaAfter, normalFormLines, normalFormAnswer, normalFormArea, equalLines, equalAnswer, sameBytes}
+use Rattle.spec.specs.Calls.{planLimit, areaLine, areaAfter, normalFormLines, normalFormAnswer, normalFormArea}
+use Rattle.spec.specs.Calls.{equalLines, equalAnswer, sameBytes}
 use Rattle.spec.specs.Answers.{Checked}
 use Rattle.spec.specs.Loops.{Looped, apart, joined, LeadIn, checkLines, checkAnswer}
 use Rattle.spec_laws.specs.LoopLaws.{loops-pass, none-joins, none-some, check-pass}

@@ -17,7 +17,8 @@ use Rattle.spec_laws.specs.CommandLaws.{isCommand-undone, passes-cases, 
 use Rattle.spec_laws.specs.PlanLaws.{passes-low, passing-append, passing-right}
 use Rattle.spec_laws.specs.LettersLaws.{letters-commands, letters-undone, letters-append, letters-same}
 use Rattle.spec.specs.Step.{Equal}
-use Rattle.spec_laws.specs.StepLaws.{equal-exact, equal-words, equal-left, kept, kept-commands, kept-same, kept-equal, kept-passing}
+use Rattle.spec_laws.specs.StepLaws.{equal-exact, equal-words, equal-left, kept, kept-commands, kept-same}
+use Rattle.spec_laws.specs.StepLaws.{kept-equal, kept-passing}
 use Rattle.spec_laws.specs.NormalFormLaws.{case}
 use Rattle.spec.specs.Join.{Joins}
 

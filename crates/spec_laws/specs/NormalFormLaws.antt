@@ -17,7 +17,8 @@ use Rattle.theory_words.specs.LetterLaws.{all-nf}
 use Rattle.spec.specs.Catalogue.{commands}
 use Rattle.spec.specs.Plan.{isCommand, Passing}
 use Rattle.spec.specs.Letters.{letters, alphabet, normalForm}
-use Rattle.spec_laws.specs.LettersLaws.{Commands, letters-commands, commands-passing, letters-same, letters-length, letters-filler, letters-letter}
+use Rattle.spec_laws.specs.LettersLaws.{Commands, letters-commands, commands-passing, letters-same}
+use Rattle.spec_laws.specs.LettersLaws.{letters-length, letters-filler, letters-letter}
 use Rattle.spec.specs.Step.{Equal}
 use Rattle.spec_laws.specs.StepLaws.{equal-exact, equal-words, equal-right}
 use Rattle.spec.specs.Order.{Earlier}

@@ -10,9 +10,8 @@ use lib.ListN.{length, getD}
 use lib.Dec.{leb, ltb, eqb}
 use borrow.Author.Tests.{leb-true, le-leb, lt-ltb, le-ltb, eq-eqb, ne-eqb, ltb-false, not-false}
 use Rattle.theory_words.specs.BoolLaws.{true-same}
-use Rattle.spec.specs.Table.{firstOf, lineAt}
+use Rattle.spec.specs.Table.{firstOf, lineAt, line, holds, Answer, refused, given, firstLine, orElse}
 use Rattle.spec_laws.specs.SearchLaws.{search-none}
-use Rattle.spec.specs.Table.{line, holds, Answer, refused, given, firstLine, orElse}
 use Rattle.spec.specs.Plan.{isCommand, passes, firstBad, planLines, Passing}
 use Rattle.spec.specs.AlphabetLaws.{Side, under, amid, over, side, within-in, within-under, within-over}
 

@@ -7,8 +7,7 @@ use native.Mathlib.Omega.{arith}
 use mathlib.Core.Path.{_≡_, refl, sym, _∙_, ap}
 use mathlib.Core.Bool.{Bool, true, false}
 use mathlib.Core.Option.{Option, none, some}
-use Rattle.spec.specs.Table.{Line, refused, given, orElse}
-use Rattle.spec.specs.Table.{firstOf, found-step}
+use Rattle.spec.specs.Table.{Line, refused, given, orElse, firstOf, found-step}
 
 none-not : {A : Type 0} {a : A} → some a ≡ none → ⊥
 none-not e = let z : _≡_ {A = ℕ} 0 1 = cc in omega arith

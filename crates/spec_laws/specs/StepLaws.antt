@@ -17,7 +17,8 @@ use Rattle.spec.specs.Plan.{isCommand, passes, Passing}
 use Rattle.spec.specs.Byte.{commandOf, undone}
 use Rattle.spec_laws.specs.CommandLaws.{isCommand-undone, command-nonzero, command-passes}
 use Rattle.spec.specs.Letters.{letters, letters-step, alphabet}
-use Rattle.spec_laws.specs.LettersLaws.{Commands, letters-filler, letters-letter, letters-commands, commands-passing}
+use Rattle.spec_laws.specs.LettersLaws.{Commands, letters-filler, letters-letter, letters-commands}
+use Rattle.spec_laws.specs.LettersLaws.{commands-passing}
 use Rattle.spec.specs.Step.{Step, swap, pairIn, pairOut, fillerIn, fillerOut, later, Equal, stay, step}
 
 module _ (c : List ℕ) where

@@ -1,1 +1,2 @@
-// Laws of the definitions in the crate spec, and the proofs of its demands: specs/DemandsMet.antt, specs/CasesHold.antt.
+// Laws of the definitions in the crate spec, and the proofs of its demands: specs/DemandsMet.antt,
+// specs/CasesHold.antt.

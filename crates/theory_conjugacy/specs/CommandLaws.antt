@@ -16,8 +16,8 @@ use Rattle.theory_words.specs.TraceLaws.{~-sym, Apart}
 use Rattle.theory_conjugacy.specs.Turn.{Turns, same, turn, also}
 use Rattle.theory_conjugacy.specs.Filter.{filter, filter-step}
 use Rattle.theory_conjugacy.specs.Part.{commands}
-use Rattle.theory_conjugacy.specs.AscendingLaws.{_∈_, Ascending, insert-in, in-insert, insert-ascending, ascending-equal}
-use Rattle.theory_conjugacy.specs.AscendingLaws.{within-shorter, ascending-length}
+use Rattle.theory_conjugacy.specs.AscendingLaws.{_∈_, Ascending, insert-in, in-insert, insert-ascending}
+use Rattle.theory_conjugacy.specs.AscendingLaws.{ascending-equal, within-shorter, ascending-length}
 
 module _ (Γ : Alphabet) where
   open Alphabet Γ using (Letter, cmd, conf)

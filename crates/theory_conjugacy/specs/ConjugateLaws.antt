@@ -23,8 +23,8 @@ use Rattle.theory_conjugacy.specs.TurnLaws.{turns-rotate, turns-pick, ro
 use Rattle.theory_conjugacy.specs.Core.{lead, core}
 use Rattle.theory_conjugacy.specs.CoreLaws.{core-round, core-conj}
 use Rattle.theory_conjugacy.specs.Way.{Run, stop, step, nothing, minus, free, Way, goes}
-use Rattle.theory_conjugacy.specs.WayLaws.{conj-pick, run-along, run-rotate, run-turns, way-≈, way-run, way-centre}
-use Rattle.theory_conjugacy.specs.WayLaws.{way-turns}
+use Rattle.theory_conjugacy.specs.WayLaws.{conj-pick, run-along, run-rotate, run-turns, way-≈, way-run}
+use Rattle.theory_conjugacy.specs.WayLaws.{way-centre, way-turns}
 
 module _ (Γ : Alphabet) where
   open Alphabet Γ using (Letter, inv)

@@ -29,12 +29,12 @@ use Rattle.theory_conjugacy.specs.Part.{commands, label, apexes, share, 
 use Rattle.theory_conjugacy.specs.RingLaws.{turns-rotated}
 use Rattle.theory_conjugacy.specs.AscendingLaws.{Within}
 use Rattle.theory_conjugacy.specs.CommandLaws.{all-occurs, commands-turns}
-use Rattle.theory_conjugacy.specs.PartLaws.{ascending-once, shares, label-same, apexes-same, apexes-ascending, apexes-~}
+use Rattle.theory_conjugacy.specs.PartLaws.{ascending-once, shares, label-same, apexes-same, apexes-ascending}
+use Rattle.theory_conjugacy.specs.PartLaws.{apexes-~}
 use Rattle.theory_conjugacy.specs.Decision.{alike?, part-ring, rotated?, parts-joined?, cores-joined?, joined?}
 use Rattle.theory_conjugacy.specs.LeadIn.{parts-lead, lead-in}
 use Rattle.theory_conjugacy.specs.LeadInLaws.{apical-part, settling-leads, rotated-test}
-use Rattle.theory_conjugacy.specs.JoinLaws.{part-second, apical-second}
-use Rattle.theory_conjugacy.specs.JoinLaws.{parts-lead-conj, parts-lead-length}
+use Rattle.theory_conjugacy.specs.JoinLaws.{part-second, apical-second, parts-lead-conj, parts-lead-length}
 
 pub alike-true : (is js : List ℕ) → alike? is js ≡ true → is ≡ js
 unfolding alike?

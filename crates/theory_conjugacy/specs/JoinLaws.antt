@@ -18,10 +18,11 @@ use Rattle.theory_words.specs.GroupLaws.{≈-of-≡, ~→≈, ≈-append, ≈-c
 use Rattle.theory_conjugacy.specs.Filter.{filter, filter-step}
 use Rattle.theory_conjugacy.specs.Part.{commands, label, apexes, share, part}
 use Rattle.theory_conjugacy.specs.AscendingLaws.{_∈_, Within}
-use Rattle.theory_conjugacy.specs.CommandLaws.{Occurs, occurs-nil, occurs-split, occurs-all, all-occurs, same-covers}
-use Rattle.theory_conjugacy.specs.CommandLaws.{commands-bounded}
-use Rattle.theory_conjugacy.specs.PartLaws.{Once, Independent, independent-swap, independent-sym, label-parting, shares}
-use Rattle.theory_conjugacy.specs.PartLaws.{share-occurs, label-same, apexes-same, part-share, part-occurs}
+use Rattle.theory_conjugacy.specs.CommandLaws.{Occurs, occurs-nil, occurs-split, occurs-all, all-occurs}
+use Rattle.theory_conjugacy.specs.CommandLaws.{same-covers, commands-bounded}
+use Rattle.theory_conjugacy.specs.PartLaws.{Once, Independent, independent-swap, independent-sym, label-parting}
+use Rattle.theory_conjugacy.specs.PartLaws.{shares, share-occurs, label-same, apexes-same, part-share}
+use Rattle.theory_conjugacy.specs.PartLaws.{part-occurs}
 use Rattle.theory_conjugacy.specs.Decision.{part-ring, rotated?, parts-joined?}
 use Rattle.theory_conjugacy.specs.LeadIn.{part-lead, parts-lead}
 use Rattle.theory_conjugacy.specs.LeadInLaws.{Apical, apical-part, part-lead-conj, parts-length, part-lead-length}

@@ -19,7 +19,8 @@ use Rattle.theory_words.specs.Group as Group
 use Rattle.theory_words.specs.Group.{undo, conj, then, back}
 use Rattle.theory_words.specs.GroupLaws.{~→≈, ≈-of-≡, ≈-conj, conj-nil, conj-append, conj-undo}
 use Rattle.theory_words.specs.Normal.{Ordered, lex}
-use Rattle.theory_words.specs.NormalLaws.{ordered-unique, ordered-prefix, ordered-suffix, ordered-join, lex-~, lex-ordered}
+use Rattle.theory_words.specs.NormalLaws.{ordered-unique, ordered-prefix, ordered-suffix, ordered-join, lex-~}
+use Rattle.theory_words.specs.NormalLaws.{lex-ordered}
 use Rattle.theory_conjugacy.specs.Turn.{Turns, same, turn, also}
 use Rattle.theory_conjugacy.specs.TurnLaws.{turns-pick}
 use Rattle.theory_conjugacy.specs.WordLaws.{~-of-≡}

@@ -15,9 +15,9 @@ use Rattle.theory_conjugacy.specs.Part.{commands}
 use Rattle.theory_conjugacy.specs.Settle.{split, settled, Split, stop, up, low, Rounded, quiet, round}
 use Rattle.theory_conjugacy.specs.SettleLaws.{split-~, split-splits, split-unique, split-free, split-apart}
 use Rattle.theory_conjugacy.specs.SettleLaws.{split-upper, rounded-settled}
-use Rattle.theory_conjugacy.specs.CommandLaws.{Occurs, now, later, occurs-nil, occurs-left, occurs-right, occurs-split}
-use Rattle.theory_conjugacy.specs.CommandLaws.{occurs-along, occurs-swap, occurs?, occurs-apart, occurs-length}
-use Rattle.theory_conjugacy.specs.CommandLaws.{all-occurs, Covers, covers-shorter}
+use Rattle.theory_conjugacy.specs.CommandLaws.{Occurs, now, later, occurs-nil, occurs-left, occurs-right}
+use Rattle.theory_conjugacy.specs.CommandLaws.{occurs-split, occurs-along, occurs-swap, occurs?, occurs-apart}
+use Rattle.theory_conjugacy.specs.CommandLaws.{occurs-length, all-occurs, Covers, covers-shorter}
 use Rattle.theory_conjugacy.specs.PartLaws.{Connected, Independent}
 
 module _ (Γ : Alphabet) where

@@ -13,8 +13,7 @@ use Rattle.theory_words.specs.Alphabet.{Alphabet, Word}
 use Rattle.theory_words.specs.All.{All, all-map}
 use Rattle.theory_words.specs.Trace as Trace
 use Rattle.theory_words.specs.Trace.{here, there, First, done, cons, next}
-use Rattle.theory_words.specs.TraceLaws.{dep-sym, ~-sym, first-along}
-use Rattle.theory_words.specs.TraceLaws.{Apart, apart-pass}
+use Rattle.theory_words.specs.TraceLaws.{dep-sym, ~-sym, first-along, Apart, apart-pass}
 use Rattle.theory_words.specs.Normal.{meets, meets-step}
 use Rattle.theory_conjugacy.specs.Turn.{Turns, same, also}
 use Rattle.theory_conjugacy.specs.TurnLaws.{turns-refl, turns-rotate}

@@ -8,8 +8,7 @@ use Rattle.theory_words.specs.Trace as Trace
 use Rattle.theory_words.specs.Trace.{Pick, here, there, First}
 use Rattle.theory_words.specs.Group.{Reduced, undo}
 use Rattle.theory_words.specs.TraceLaws.{~-refl, ~-sym, ~-length, pick-front, pick-along, pick-after, first-along}
-use Rattle.theory_words.specs.TraceLaws.{not-first-nil, not-first-cons}
-use Rattle.theory_words.specs.TraceLaws.{Splits, early, late, pick-split}
+use Rattle.theory_words.specs.TraceLaws.{not-first-nil, not-first-cons, Splits, early, late, pick-split}
 use Rattle.theory_words.specs.GroupLaws.{dep-inv-right, undo-onto, undo-append, ~-undo}
 use Rattle.theory_words.specs.ReduceLaws.{reduced-along, reduced-append}
 use Rattle.theory_conjugacy.specs.WordLaws.{~-of-≡, pick-one}

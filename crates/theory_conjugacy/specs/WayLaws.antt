@@ -8,9 +8,9 @@ use Rattle.theory_words.specs.Group as Group
 use Rattle.theory_words.specs.Group.{undo, conj, keep, trade, drop, then, back}
 use Rattle.theory_words.specs.TraceLaws.{~-sym, ~-after, pick-front, pick-along, dep-sym}
 use Rattle.theory_words.specs.TraceLaws.{Apart, apart-factors, apart-along, apart-pass}
-use Rattle.theory_words.specs.GroupLaws.{~→≈, ≈-of-≡, ≈-refl, ≈-before, ≈-after, drop-back, ≈-undo, ≈-undo-onto, undo-append}
-use Rattle.theory_words.specs.GroupLaws.{undo-after, undo-cancel, cancel-undo}
-use Rattle.theory_words.specs.GroupLaws.{conj-of, conj-nil, conj-append, ≈-conj, ≈-conj-by}
+use Rattle.theory_words.specs.GroupLaws.{~→≈, ≈-of-≡, ≈-refl, ≈-before, ≈-after, drop-back, ≈-undo, ≈-undo-onto}
+use Rattle.theory_words.specs.GroupLaws.{undo-append, undo-after, undo-cancel, cancel-undo, conj-of, conj-nil}
+use Rattle.theory_words.specs.GroupLaws.{conj-append, ≈-conj, ≈-conj-by}
 use Rattle.theory_conjugacy.specs.WordLaws.{~-of-≡}
 use Rattle.theory_conjugacy.specs.Turn.{Turns, same, also}
 use Rattle.theory_conjugacy.specs.TurnLaws.{turns-pick}

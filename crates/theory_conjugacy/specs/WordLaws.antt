@@ -1,5 +1,5 @@
--- Laws of words that conjugacy needs beside those of the theory_words crate: letters at the end of a word, and a search among
--- the letters that can come first.
+-- Laws of words that conjugacy needs beside those of the theory_words crate: letters at the end of a word, and a search
+-- among the letters that can come first.
 use mathlib.Core.Path.{_≡_, refl, sym, _∙_, ap, subst}
 use mathlib.Core.Bool.{Bool, true, false, true≢false}
 use mathlib.Core.List.{[], _∷_, _++_}
@@ -7,9 +7,8 @@ use Rattle.theory_words.specs.Alphabet.{Alphabet, Word, dep}
 use Rattle.theory_words.specs.Trace as Trace
 use Rattle.theory_words.specs.Trace.{Pick, here, there, First}
 use Rattle.theory_words.specs.Group.{undo}
-use Rattle.theory_words.specs.TraceLaws.{dep-not, ~-refl, pick-nil, pick-along, cons-cancel}
-use Rattle.theory_words.specs.TraceLaws.{Apart, not-first-nil, not-first-cons}
-use Rattle.theory_words.specs.TraceLaws.{Splits, early, late, pick-split}
+use Rattle.theory_words.specs.TraceLaws.{dep-not, ~-refl, pick-nil, pick-along, cons-cancel, Apart, not-first-nil}
+use Rattle.theory_words.specs.TraceLaws.{not-first-cons, Splits, early, late, pick-split}
 use Rattle.theory_words.specs.GroupLaws.{~-undo, undo-append, undo-twice, pick-undo}
 
 module _ (Γ : Alphabet) where

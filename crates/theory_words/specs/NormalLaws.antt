@@ -18,8 +18,8 @@ use Rattle.theory_words.specs.Trace as Trace
 use Rattle.theory_words.specs.Trace.{Pick, here, there, First, done, cons, next}
 use Rattle.theory_words.specs.TraceLaws.{~-refl, ~-sym, ~-length, first-along, cons-cancel, first-eq}
 use Rattle.theory_words.specs.TraceLaws.{pick-front, pick-after, pick-length, Splits, early, late, pick-split}
-use Rattle.theory_words.specs.Normal.{Ordered, Smaller, at, on, nf}
-use Rattle.theory_words.specs.Normal.{meets, meets-step, firsts, firsts-step, least, least-step, lex, lex-step, rest}
+use Rattle.theory_words.specs.Normal.{Ordered, Smaller, at, on, nf, meets, meets-step, firsts, firsts-step, least}
+use Rattle.theory_words.specs.Normal.{least-step, lex, lex-step, rest}
 use Rattle.theory_words.specs.ReduceLaws.{pick-without, reduced-along, reduced-~}
 use Rattle.theory_words.specs.ReduceLaws.{reduce-~, reduce-reduced, reduce-≈, reduce-least, shortest-~}
 use Rattle.theory_words.specs.Group as Group

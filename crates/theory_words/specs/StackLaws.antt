@@ -5,8 +5,7 @@ use native.Mathlib.Omega.{arith}
 use mathlib.Core.Path.{_≡_, refl, sym, _∙_, ap, subst}
 use mathlib.Core.Logic.{_⊎_, inl, inr}
 use mathlib.Core.Bool.{Bool, true, false, true≢false}
-use mathlib.Core.List.{[], _∷_, _++_, nil≢cons, head-eq-of-cons-eq, tail-eq-of-cons-eq}
-use mathlib.Core.List.{append-nil, append-assoc}
+use mathlib.Core.List.{[], _∷_, _++_, nil≢cons, head-eq-of-cons-eq, tail-eq-of-cons-eq, append-nil, append-assoc}
 use mathlib.Core.List.{reverse, reverseAux, reverseAux-eq, reverse-append, reverse-reverse}
 use lib.ListN.{length, length-append}
 use lib.Dec.{eqb}

@@ -14,31 +14,10 @@ abbrev μ-loop : tie.MeasureT-loop
 loop-holds : tie.Need-loop-holds Inv-loop μ-loop
 loop-holds c = changing-start _+_
 
-mul-heights : tie.Need-mul-heights Inv-loop μ-loop
-mul-heights c = omega arith
-
-element-copy-out-heights : tie.Need-element-copy-out-heights Inv-loop μ-loop
-element-copy-out-heights c = omega arith
-
-mul-heights-2 : tie.Need-mul-heights-2 Inv-loop μ-loop
-mul-heights-2 c = omega arith
-
-element-copy-out-heights-2 : tie.Need-element-copy-out-heights-2 Inv-loop μ-loop
-element-copy-out-heights-2 c = omega arith
-
 add-heights : tie.Need-add-heights Inv-loop μ-loop
 add-heights c =
     let t = c .before .before .before in
     record { fits = changing-at _+_ (t .before .pre) (omega arith) (t .loop .inv) }
-
-element-write-heights : tie.Need-element-write-heights Inv-loop μ-loop
-element-write-heights c = omega arith
-
-add-i : tie.Need-add-i Inv-loop μ-loop
-add-i c = omega arith
-
-loop-less : tie.Need-loop-less Inv-loop μ-loop
-loop-less c = omega arith
 
 loop-again : tie.Need-loop-again Inv-loop μ-loop
 loop-again c =
@@ -55,13 +34,13 @@ lift-spec =
     Inv-loop
     μ-loop
     loop-holds
-    mul-heights
-    element-copy-out-heights
-    mul-heights-2
-    element-copy-out-heights-2
+    (λ c. omega arith)
+    (λ c. omega arith)
+    (λ c. omega arith)
+    (λ c. omega arith)
     add-heights
-    element-write-heights
-    add-i
-    loop-less
+    (λ c. omega arith)
+    (λ c. omega arith)
+    (λ c. omega arith)
     loop-again
     returns)

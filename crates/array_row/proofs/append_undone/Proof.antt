@@ -1,8 +1,9 @@
--- `array_row::append_undone` meets its contract. The loop's invariant: the bytes from place i on are appended, backwards and
--- undone. Assumes nothing.
+-- `array_row::append_undone` meets its contract. The loop's invariant: the bytes from place i on are appended,
+-- backwards and undone. Assumes nothing.
 use native.Mathlib.Omega.{arith}
 use borrow.Author.Needs.{needs}
-use Rattle.array_row.specs.RowLaws.{Undoing, undoing-start, undoing-length, undoing-fits, undoing-again, undoing-whole}
+use Rattle.array_row.specs.RowLaws.{Undoing, undoing-start, undoing-length, undoing-fits, undoing-again}
+use Rattle.array_row.specs.RowLaws.{undoing-whole}
 use Rattle.array_row.proofs.append_undone.Statement.{statement}
 use Rattle.array_row.proofs.append_undone.Tie as tie
 
@@ -17,14 +18,8 @@ loop-holds c =
     let a = c .before .before .args in
     undoing-start (a .row .now) (a .at) (a .word .now)
 
-sub-i : tie.Need-sub-i Inv-loop μ-loop
-sub-i c = omega arith
-
 shared-slice-read-undo : tie.Need-shared-slice-read-undo Inv-loop μ-loop
 shared-slice-read-undo c = omega (arith, c .before .before .loop .inv .within)
-
-undo-requires : tie.Need-undo-requires Inv-loop μ-loop
-undo-requires c κs = search needs
 
 add-row : tie.Need-add-row Inv-loop μ-loop
 add-row c =
@@ -41,9 +36,6 @@ add-n : tie.Need-add-n Inv-loop μ-loop
 add-n c =
     let l = c .before .before .before in
     omega (arith, undoing-fits (l .before .before .before .pre) (l .loop .inv))
-
-loop-less : tie.Need-loop-less Inv-loop μ-loop
-loop-less c = omega arith
 
 loop-again : tie.Need-loop-again Inv-loop μ-loop
 loop-again c =
@@ -68,13 +60,13 @@ append-undone-spec =
     Inv-loop
     μ-loop
     loop-holds
-    sub-i
+    (λ c. omega arith)
     shared-slice-read-undo
-    undo-requires
+    (λ c κs. search needs)
     add-row
     slice-write-row
     add-n
-    loop-less
+    (λ c. omega arith)
     loop-again
     add-result
     same-length

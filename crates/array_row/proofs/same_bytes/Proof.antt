@@ -20,18 +20,6 @@ returns c = lengths-differ (c .if1 .taken)
 loop-holds : tie.Need-loop-holds Inv-loop μ-loop
 loop-holds c = (omega arith, omega arith, compared-start _ _)
 
-shared-slice-read-differ : tie.Need-shared-slice-read-differ Inv-loop μ-loop
-shared-slice-read-differ c = omega arith
-
-shared-slice-read-differ-2 : tie.Need-shared-slice-read-differ-2 Inv-loop μ-loop
-shared-slice-read-differ-2 c = omega arith
-
-add-i : tie.Need-add-i Inv-loop μ-loop
-add-i c = omega arith
-
-loop-less : tie.Need-loop-less Inv-loop μ-loop
-loop-less c = omega arith
-
 loop-again : tie.Need-loop-again Inv-loop μ-loop
 loop-again c =
     let l = c .before .before .before in
@@ -52,9 +40,9 @@ same-bytes-spec =
     μ-loop
     returns
     loop-holds
-    shared-slice-read-differ
-    shared-slice-read-differ-2
-    add-i
-    loop-less
+    (λ c. omega arith)
+    (λ c. omega arith)
+    (λ c. omega arith)
+    (λ c. omega arith)
     loop-again
     returns-2)

@@ -1,5 +1,5 @@
--- `array_row::undo_between` meets its contract. The loop's invariant: what is left between i and j, undone there, is what is
--- to be. Assumes nothing.
+-- `array_row::undo_between` meets its contract. The loop's invariant: what is left between i and j, undone there, is
+-- what is to be. Assumes nothing.
 use Prim.Native.Nat.{_-_}
 use mathlib.Core.Path.{_∙_}
 use native.Mathlib.Omega.{arith}
@@ -21,20 +21,11 @@ loop-holds c =
     let s = c .before in
     turning-start (s .args .row .now) (s .args .from) (s .args .to) (s .pre .0) (s .pre .1)
 
-sub-j : tie.Need-sub-j Inv-loop μ-loop
-sub-j c = omega arith
-
 slice-read-undo : tie.Need-slice-read-undo Inv-loop μ-loop
 slice-read-undo c = omega (arith, turning-fits (c .before .before .loop .inv) (omega arith))
 
-undo-requires : tie.Need-undo-requires Inv-loop μ-loop
-undo-requires c κs = search needs
-
 slice-read-undo-2 : tie.Need-slice-read-undo-2 Inv-loop μ-loop
 slice-read-undo-2 c = omega (arith, turning-fits (c .before .before .before .before .loop .inv) (omega arith))
-
-undo-requires-2 : tie.Need-undo-requires-2 Inv-loop μ-loop
-undo-requires-2 c κs = search needs
 
 slice-write-row : tie.Need-slice-write-row Inv-loop μ-loop
 slice-write-row c =
@@ -51,9 +42,6 @@ add-i c =
     let s = l .before .before in
     let g = goal-length (s .args .row .now) (s .args .from) (s .args .to) (s .pre .0) (s .pre .1) in
     omega (arith, turning-fits (l .loop .inv) (omega arith), turning-length (l .loop .inv), g)
-
-loop-less : tie.Need-loop-less Inv-loop μ-loop
-loop-less c = omega arith
 
 loop-again : tie.Need-loop-again Inv-loop μ-loop
 loop-again c =
@@ -76,15 +64,15 @@ undo-between-spec =
     Inv-loop
     μ-loop
     loop-holds
-    sub-j
+    (λ c. omega arith)
     slice-read-undo
-    undo-requires
+    (λ c κs. search needs)
     slice-read-undo-2
-    undo-requires-2
+    (λ c κs. search needs)
     slice-write-row
     slice-write-row-2
     add-i
-    loop-less
+    (λ c. omega arith)
     loop-again
     same-length
     returns)

@@ -12,18 +12,6 @@ use Rattle.call_codes.proofs.equal_code.Tie as tie
 told : {a b : Equality} → a ≡ b → equalCode (toldEquality b) ≡ equalCode (toldEquality a)
 told e = sym (ap (λ t. equalCode (toldEquality t)) e)
 
-enum-told : tie.Need-enum-told
-enum-told c = search needs
-
-enum-told-2 : tie.Need-enum-told-2
-enum-told-2 c = search needs
-
-enum-known-answer : tie.Need-enum-known-answer
-enum-known-answer c = search needs
-
-refusal-code-requires : tie.Need-refusal-code-requires
-refusal-code-requires c κs = search needs
-
 returns : tie.Need-returns
 returns c = told (c .enum-told .given .1)
 
@@ -40,10 +28,10 @@ pub equal-code-spec : {M : Type 1} → statement M
 equal-code-spec =
     tie.close
     (tie.spec
-    enum-told
-    enum-told-2
-    enum-known-answer
-    refusal-code-requires
+    (λ c. search needs)
+    (λ c. search needs)
+    (λ c. search needs)
+    (λ c κs. search needs)
     returns
     returns-2
     returns-3)

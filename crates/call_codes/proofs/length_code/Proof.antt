@@ -12,18 +12,9 @@ use Rattle.call_codes.proofs.length_code.Tie as tie
 told : {a b : Written} → a ≡ b → lengthCode (toldWritten b) ≡ lengthCode (toldWritten a)
 told e = sym (ap (λ t. lengthCode (toldWritten t)) e)
 
-enum-known-answer : tie.Need-enum-known-answer
-enum-known-answer c = search needs
-
 cast-result : tie.Need-cast-result
 cast-result c =
     record { sfits = c .before .before .before .pre (c .before .answer .given .0 .0) (c .before .answer .given .1) }
-
-enum-known-answer-2 : tie.Need-enum-known-answer-2
-enum-known-answer-2 c = search needs
-
-refusal-code-requires : tie.Need-refusal-code-requires
-refusal-code-requires c κs = search needs
 
 returns : tie.Need-returns
 returns c =
@@ -41,9 +32,9 @@ pub length-code-spec : {M : Type 1} → statement M
 length-code-spec =
     tie.close
     (tie.spec
-    enum-known-answer
+    (λ c. search needs)
     cast-result
-    enum-known-answer-2
-    refusal-code-requires
+    (λ c. search needs)
+    (λ c κs. search needs)
     returns
     returns-2)

@@ -16,9 +16,6 @@ use Rattle.call_codes.proofs.loops_code.Tie as tie
 told : {a b : Loops} → a ≡ b → loopsCode (toldLoops b) ≡ loopsCode (toldLoops a)
 told e = sym (ap (λ t. loopsCode (toldLoops t)) e)
 
-enum-known-answer : tie.Need-enum-known-answer
-enum-known-answer c = search needs
-
 add-result : tie.Need-add-result
 add-result c =
     let s = c .before .before .before in
@@ -28,15 +25,6 @@ cast-result : tie.Need-cast-result
 cast-result c =
     let s = c .before .before .before in
     record { sfits = omega (arith, s .pre (c .before .answer .given .0 .0) (c .before .answer .given .1)) }
-
-enum-told : tie.Need-enum-told
-enum-told c = search needs
-
-enum-known-answer-2 : tie.Need-enum-known-answer-2
-enum-known-answer-2 c = search needs
-
-refusal-code-requires : tie.Need-refusal-code-requires
-refusal-code-requires c κs = search needs
 
 returns : tie.Need-returns
 returns c =
@@ -57,12 +45,12 @@ pub loops-code-spec : {M : Type 1} → statement M
 loops-code-spec =
     tie.close
     (tie.spec
-    enum-known-answer
+    (λ c. search needs)
     add-result
     cast-result
-    enum-told
-    enum-known-answer-2
-    refusal-code-requires
+    (λ c. search needs)
+    (λ c. search needs)
+    (λ c κs. search needs)
     returns
     returns-2
     returns-3)

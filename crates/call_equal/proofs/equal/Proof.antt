@@ -8,21 +8,6 @@ use Rattle.call_equal.proofs.equal.Tie as tie
 abbrev start : tie.After-two-plans → tie.Start
 start e = e .before .before .before .before .before .before
 
-blank-requires : tie.Need-blank-requires
-blank-requires c κs = search needs
-
-two-plans-requires : tie.Need-two-plans-requires
-two-plans-requires c κs = search needs
-
-enum-told : tie.Need-enum-told
-enum-told c = search needs
-
-enum-told-2 : tie.Need-enum-told-2
-enum-told-2 c = search needs
-
-not-compared-requires : tie.Need-not-compared-requires
-not-compared-requires c κs = search needs
-
 returns : tie.Need-returns
 returns c =
     equal-refused (c .before .before .before .two-plans .ensures) (c .before .enum-told2 .given .1)
@@ -57,11 +42,11 @@ pub equal-spec : {M : Type 1} → statement M
 equal-spec =
     tie.close
     (tie.spec
-    blank-requires
-    two-plans-requires
-    enum-told
-    enum-told-2
-    not-compared-requires
+    (λ c κs. search needs)
+    (λ c κs. search needs)
+    (λ c. search needs)
+    (λ c. search needs)
+    (λ c κs. search needs)
     returns
     equal-requires
     returns-2

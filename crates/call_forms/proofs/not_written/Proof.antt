@@ -4,12 +4,6 @@ use borrow.Author.Needs.{needs}
 use Rattle.call_forms.proofs.not_written.Statement.{statement}
 use Rattle.call_forms.proofs.not_written.Tie as tie
 
-enum-known-checked : tie.Need-enum-known-checked
-enum-known-checked c = search needs
-
-enum-known-checked-2 : tie.Need-enum-known-checked-2
-enum-known-checked-2 c = search needs
-
 returns : tie.Need-returns
 returns c = passed-on-none _ (c .before .checked .given .1)
 
@@ -17,4 +11,4 @@ returns-2 : tie.Need-returns-2
 returns-2 c = passed-on (c .before .checked2 .given .1)
 
 pub not-written-spec : {M : Type 1} → statement M
-not-written-spec = tie.close (tie.spec enum-known-checked enum-known-checked-2 returns returns-2)
+not-written-spec = tie.close (tie.spec (λ c. search needs) (λ c. search needs) returns returns-2)

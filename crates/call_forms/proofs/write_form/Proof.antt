@@ -31,28 +31,10 @@ module _ (i : tie.Else1) where
       let d = checks .one-plan .ensures in
       d .passed (entered-none d (i .before .enum-told .given .1))
 
-blank-requires : tie.Need-blank-requires
-blank-requires c κs = search needs
-
-one-plan-requires : tie.Need-one-plan-requires
-one-plan-requires c κs = search needs
-
-enum-told : tie.Need-enum-told
-enum-told c = search needs
-
-enum-told-2 : tie.Need-enum-told-2
-enum-told-2 c = search needs
-
-not-written-requires : tie.Need-not-written-requires
-not-written-requires c κs = search needs
-
 returns : tie.Need-returns
 returns c =
     let e = c .before .before .before in
     form-refused (e .one-plan .ensures) (wanted e) (area e) (c .before .enum-told2 .given .1) (c .not-written .ensures)
-
-small-area-requires : tie.Need-small-area-requires
-small-area-requires c κs = search needs
 
 returns-2 : tie.Need-returns-2
 returns-2 c =
@@ -66,9 +48,6 @@ form-requires c κs =
     let i = c .before .before in
     (cat i, passed i, i .if1 .left)
 
-same-length : tie.Need-same-length
-same-length c = search needs
-
 returns-3 : tie.Need-returns-3
 returns-3 c =
     let f = c .before .before in
@@ -81,14 +60,14 @@ pub write-form-spec : {M : Type 1} → statement M
 write-form-spec =
     tie.close
     (tie.spec
-    blank-requires
-    one-plan-requires
-    enum-told
-    enum-told-2
-    not-written-requires
+    (λ c κs. search needs)
+    (λ c κs. search needs)
+    (λ c. search needs)
+    (λ c. search needs)
+    (λ c κs. search needs)
     returns
-    small-area-requires
+    (λ c κs. search needs)
     returns-2
     form-requires
-    same-length
+    (λ c. search needs)
     returns-3)

@@ -46,15 +46,6 @@ slice-reshare-prefix-same-bytes-2 c =
 slice-aggregate-same-bytes-2 : tie.Need-slice-aggregate-same-bytes-2
 slice-aggregate-same-bytes-2 c = sym (length-take-le _ _ (slice-reshare-prefix-same-bytes-2 (c .before)))
 
-same-bytes-requires : tie.Need-same-bytes-requires
-same-bytes-requires c κs = search needs
-
-same-length : tie.Need-same-length
-same-length c = search needs
-
-same-length-2 : tie.Need-same-length-2
-same-length-2 c = search needs
-
 returns : tie.Need-returns
 returns c =
     let d = both (c .before .before .before) in
@@ -72,7 +63,7 @@ check-spec =
     slice-aggregate-same-bytes
     slice-reshare-prefix-same-bytes-2
     slice-aggregate-same-bytes-2
-    same-bytes-requires
-    same-length
-    same-length-2
+    (λ c κs. search needs)
+    (λ c. search needs)
+    (λ c. search needs)
     returns)

@@ -2,7 +2,8 @@
 use Prim.Native.Nat.{ℕ}
 use mathlib.Core.List.{List}
 use Rattle.call_lead_in_check.specs.Checking.{Checkable}
-use Rattle.call_lead_in_check.specs.LeadCheckLaws.{check-refused, check-small0, check-small1, check-checkable, check-told}
+use Rattle.call_lead_in_check.specs.LeadCheckLaws.{check-refused, check-small0, check-small1, check-checkable}
+use Rattle.call_lead_in_check.specs.LeadCheckLaws.{check-told}
 use borrow.Author.Needs.{needs}
 use Rattle.call_lead_in_check.proofs.lead_in_check.Statement.{statement}
 use Rattle.call_lead_in_check.proofs.lead_in_check.Tie as tie
@@ -38,32 +39,11 @@ module _ (j : tie.Else2) where
       check-checkable (u checks) (checks .three-plans .ensures) (area0 checks) (area1 checks)
       (j .before .before .enum-told .given .1) (j .before .if1 .left) (j .if2 .left)
 
-blank-requires : tie.Need-blank-requires
-blank-requires c κs = search needs
-
-three-plans-requires : tie.Need-three-plans-requires
-three-plans-requires c κs = search needs
-
-enum-told : tie.Need-enum-told
-enum-told c = search needs
-
-enum-told-2 : tie.Need-enum-told-2
-enum-told-2 c = search needs
-
-not-checked-requires : tie.Need-not-checked-requires
-not-checked-requires c κs = search needs
-
 returns : tie.Need-returns
 returns c =
     let e = c .before .before .before in
     clauses (check-refused (u e) (e .three-plans .ensures) (area0 e) (area1 e) (c .before .enum-told2 .given .1)
     (c .not-checked .ensures))
-
-add-if1 : tie.Need-add-if1
-add-if1 c = search needs
-
-small-area-requires : tie.Need-small-area-requires
-small-area-requires c κs = search needs
 
 returns-2 : tie.Need-returns-2
 returns-2 c =
@@ -71,12 +51,6 @@ returns-2 c =
     let e = p .before .before in
     clauses (check-small0 (u e) (e .three-plans .ensures) (area0 e) (area1 e) (p .enum-told .given .1)
     (c .before .if1 .taken) (c .small-area .ensures))
-
-add-if2 : tie.Need-add-if2
-add-if2 c = search needs
-
-small-area-requires-2 : tie.Need-small-area-requires-2
-small-area-requires-2 c κs = search needs
 
 returns-3 : tie.Need-returns-3
 returns-3 c =
@@ -90,15 +64,6 @@ check-requires c κs =
     let j = c .before .before .before in
     (cat j, checkable j)
 
-lead-in-requires : tie.Need-lead-in-requires
-lead-in-requires c κs = search needs
-
-same-length : tie.Need-same-length
-same-length c = search needs
-
-same-length-2 : tie.Need-same-length-2
-same-length-2 c = search needs
-
 returns-4 : tie.Need-returns-4
 returns-4 c =
     let k = c .before .before .before .before .before in
@@ -111,20 +76,20 @@ pub lead-in-check-spec : {M : Type 1} → statement M
 lead-in-check-spec =
     tie.close
     (tie.spec
-    blank-requires
-    three-plans-requires
-    enum-told
-    enum-told-2
-    not-checked-requires
+    (λ c κs. search needs)
+    (λ c κs. search needs)
+    (λ c. search needs)
+    (λ c. search needs)
+    (λ c κs. search needs)
     returns
-    add-if1
-    small-area-requires
+    (λ c. search needs)
+    (λ c κs. search needs)
     returns-2
-    add-if2
-    small-area-requires-2
+    (λ c. search needs)
+    (λ c κs. search needs)
     returns-3
     check-requires
-    lead-in-requires
-    same-length
-    same-length-2
+    (λ c κs. search needs)
+    (λ c. search needs)
+    (λ c. search needs)
     returns-4)

@@ -6,9 +6,6 @@ use borrow.Author.Needs.{needs}
 use Rattle.call_lead_in_check.proofs.product_in.Statement.{statement}
 use Rattle.call_lead_in_check.proofs.product_in.Tie as tie
 
-join-requires : tie.Need-join-requires
-join-requires c κs = search needs
-
 slice-reshare-prefix-form : tie.Need-slice-reshare-prefix-form
 slice-reshare-prefix-form c = search needs
 
@@ -21,12 +18,6 @@ form-requires c κs =
     let (k, f, s) = j .before .before .before .before .before .before .pre in
     (k, joined-formable (j .join .ensures) f)
 
-same-length : tie.Need-same-length
-same-length c = search needs
-
-same-length-2 : tie.Need-same-length-2
-same-length-2 c = search needs
-
 returns : tie.Need-returns
 returns c =
     let n = c .before .before in
@@ -37,10 +28,10 @@ pub product-in-spec : {M : Type 1} → statement M
 product-in-spec =
     tie.close
     (tie.spec
-    join-requires
+    (λ c κs. search needs)
     slice-reshare-prefix-form
     slice-aggregate-form
     form-requires
-    same-length
-    same-length-2
+    (λ c. search needs)
+    (λ c. search needs)
     returns)

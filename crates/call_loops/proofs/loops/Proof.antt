@@ -27,36 +27,15 @@ plans : (k : tie.After-known-told) → Plans (cat k) (checks k .two-plans .last 
     (start (checks k) .args .v .now) (start (checks k) .args .w .now) (k .before .checked .given .0 .0)
 plans k = loops-plans (checks k .two-plans .ensures) (area (checks k)) (k .before .checked .given .1)
 
-blank-requires : tie.Need-blank-requires
-blank-requires c κs = search needs
-
-two-plans-requires : tie.Need-two-plans-requires
-two-plans-requires c κs = search needs
-
-enum-known-checked : tie.Need-enum-known-checked
-enum-known-checked c = search needs
-
-enum-told : tie.Need-enum-told
-enum-told c = search needs
-
-not-joined-requires : tie.Need-not-joined-requires
-not-joined-requires c κs = search needs
-
 returns : tie.Need-returns
 returns c =
     let e = c .before .before .before in
     loops-refused (e .two-plans .ensures) (area e) (c .before .enum-told .given .1) (c .not-joined .ensures)
 
-add-if1 : tie.Need-add-if1
-add-if1 c = search needs
-
 mul-if1 : tie.Need-mul-if1
 mul-if1 c =
     let e = checks c in
     record { fits = omega (arith, loops-fits (e .two-plans .ensures) (area e) (c .before .checked .given .1)) }
-
-small-area-requires : tie.Need-small-area-requires
-small-area-requires c κs = search needs
 
 returns-2 : tie.Need-returns-2
 returns-2 c =
@@ -70,12 +49,6 @@ join-requires c κs =
     let i = c .before .before in
     let p = plans (i .before) in
     (cat (i .before), p, i .if1 .left)
-
-verdict-requires : tie.Need-verdict-requires
-verdict-requires c κs = search needs
-
-same-length : tie.Need-same-length
-same-length c = search needs
 
 returns-3 : tie.Need-returns-3
 returns-3 c =
@@ -94,17 +67,17 @@ pub loops-spec : {M : Type 1} → statement M
 loops-spec =
     tie.close
     (tie.spec
-    blank-requires
-    two-plans-requires
-    enum-known-checked
-    enum-told
-    not-joined-requires
+    (λ c κs. search needs)
+    (λ c κs. search needs)
+    (λ c. search needs)
+    (λ c. search needs)
+    (λ c κs. search needs)
     returns
-    add-if1
+    (λ c. search needs)
     mul-if1
-    small-area-requires
+    (λ c κs. search needs)
     returns-2
     join-requires
-    verdict-requires
-    same-length
+    (λ c κs. search needs)
+    (λ c. search needs)
     returns-3)

@@ -4,12 +4,6 @@ use borrow.Author.Needs.{needs}
 use Rattle.call_loops.proofs.not_joined.Statement.{statement}
 use Rattle.call_loops.proofs.not_joined.Tie as tie
 
-enum-told : tie.Need-enum-told
-enum-told c = search needs
-
-enum-known-checked : tie.Need-enum-known-checked
-enum-known-checked c = search needs
-
 returns : tie.Need-returns
 returns c = passed-on-none _ (c .enum-told .given .1)
 
@@ -17,4 +11,4 @@ returns-2 : tie.Need-returns-2
 returns-2 c = passed-on (c .before .checked .given .1)
 
 pub not-joined-spec : {M : Type 1} → statement M
-not-joined-spec = tie.close (tie.spec enum-told enum-known-checked returns returns-2)
+not-joined-spec = tie.close (tie.spec (λ c. search needs) (λ c. search needs) returns returns-2)

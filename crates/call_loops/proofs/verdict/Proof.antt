@@ -5,15 +5,6 @@ use borrow.Author.Needs.{needs}
 use Rattle.call_loops.proofs.verdict.Statement.{statement}
 use Rattle.call_loops.proofs.verdict.Tie as tie
 
-enum-known-outcome : tie.Need-enum-known-outcome
-enum-known-outcome c = search needs
-
-enum-told : tie.Need-enum-told
-enum-told c = search needs
-
-enum-known-outcome-2 : tie.Need-enum-known-outcome-2
-enum-known-outcome-2 c = search needs
-
 returns : tie.Need-returns
 returns c = sym (ap toldOutcome (c .before .outcome .given .1))
 
@@ -26,4 +17,4 @@ returns-3 c = sym (ap toldOutcome (c .before .outcome2 .given .1))
 pub verdict-spec : {M : Type 1} → statement M
 verdict-spec =
     tie.close
-    (tie.spec enum-known-outcome enum-told enum-known-outcome-2 returns returns-2 returns-3)
+    (tie.spec (λ c. search needs) (λ c. search needs) (λ c. search needs) returns returns-2 returns-3)

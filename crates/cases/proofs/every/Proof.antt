@@ -12,29 +12,11 @@ Inv-loop pairs count₀ p₀ count p = count ≤ p
 abbrev μ-loop : tie.MeasureT-loop
 μ-loop pairs count₀ p₀ count p = 6561 - p
 
-loop-holds : tie.Need-loop-holds Inv-loop μ-loop
-loop-holds c = search needs
-
-agree-requires : tie.Need-agree-requires Inv-loop μ-loop
-agree-requires c κs = search needs
-
-cast-count : tie.Need-cast-count Inv-loop μ-loop
-cast-count c = search needs
-
 add-count : tie.Need-add-count Inv-loop μ-loop
 add-count c = omega (arith, at-most-one (c .agree .result))
 
-add-p : tie.Need-add-p Inv-loop μ-loop
-add-p c = search needs
-
-loop-less : tie.Need-loop-less Inv-loop μ-loop
-loop-less c = search needs
-
 loop-again : tie.Need-loop-again Inv-loop μ-loop
 loop-again c = omega (arith, at-most-one (c .agree .result))
-
-returns : tie.Need-returns Inv-loop μ-loop
-returns c = search needs
 
 pub every-spec : {M : Type 1} → statement M
 every-spec =
@@ -42,11 +24,11 @@ every-spec =
     (tie.spec
     Inv-loop
     μ-loop
-    loop-holds
-    agree-requires
-    cast-count
+    (λ c. search needs)
+    (λ c κs. search needs)
+    (λ c. search needs)
     add-count
-    add-p
-    loop-less
+    (λ c. search needs)
+    (λ c. search needs)
     loop-again
-    returns)
+    (λ c. search needs))

@@ -8,38 +8,17 @@ use Rattle.conjugacy_of_cores.proofs.join_at.Tie as tie
 abbrev start : tie.Else2 → tie.Start
 start e = e .before .before .before .before .before .before .before
 
-mul-if1 : tie.Need-mul-if1
-mul-if1 c = search needs
-
-element-copy-out-if1 : tie.Need-element-copy-out-if1
-element-copy-out-if1 c = search needs
-
 returns : tie.Need-returns
 returns c = λ k h. place-absent h (c .if1 .taken)
 
-element-copy-out-if2 : tie.Need-element-copy-out-if2
-element-copy-out-if2 c = search needs
-
-add-if2 : tie.Need-add-if2
-add-if2 c = search needs
-
-cast-if2 : tie.Need-cast-if2
-cast-if2 c = omega arith
-
 returns-2 : tie.Need-returns-2
 returns-2 c = λ k h. place-other h (c .if2 .taken)
-
-element-copy-out-join-part : tie.Need-element-copy-out-join-part
-element-copy-out-join-part c = search needs
 
 join-part-requires : tie.Need-join-part-requires
 join-part-requires c κs =
     let e = c .before .before in
     let (l, p) = start e .pre in
     (p .0, place-partable (p .1) l (e .before .before .if1 .left) (e .if2 .left))
-
-same-length : tie.Need-same-length
-same-length c = search needs
 
 returns-3 : tie.Need-returns-3
 returns-3 c =
@@ -55,14 +34,14 @@ pub join-at-spec : {M : Type 1} → statement M
 join-at-spec =
     tie.close
     (tie.spec
-    mul-if1
-    element-copy-out-if1
+    (λ c. search needs)
+    (λ c. search needs)
     returns
-    element-copy-out-if2
-    add-if2
-    cast-if2
+    (λ c. search needs)
+    (λ c. search needs)
+    (λ c. omega arith)
     returns-2
-    element-copy-out-join-part
+    (λ c. search needs)
     join-part-requires
-    same-length
+    (λ c. search needs)
     returns-3)

@@ -31,9 +31,6 @@ same l k =
     tells-same (m .same-commands .ensures _ _ (o .before .occurring .ensures k) (o .occurring2 .ensures k))
     (l .before .before .if2 .left)
 
-same-bytes-requires : tie.Need-same-bytes-requires
-same-bytes-requires c κs = search needs
-
 returns : tie.Need-returns
 returns c =
     let m = c .before in
@@ -47,9 +44,6 @@ occurring-requires c κs = cyclic-lettered (c .before .before .before .before .b
 occurring-requires-2 : tie.Need-occurring-requires-2
 occurring-requires-2 c κs = cyclic-lettered (c .before .before .before .before .before .before .pre .1 .second)
 
-same-commands-requires : tie.Need-same-commands-requires
-same-commands-requires c κs = search needs
-
 returns-2 : tie.Need-returns-2
 returns-2 c =
     let m = c .before in
@@ -58,9 +52,6 @@ returns-2 c =
     cores-apart h (m .same-commands .ensures _ _ (o .before .occurring .ensures k) (o .occurring2 .ensures k))
     (c .if2 .taken)
 
-labels-requires : tie.Need-labels-requires
-labels-requires c κs = search needs
-
 join-parts-requires : tie.Need-join-parts-requires
 join-parts-requires c κs =
     let l = c .before .before .before in
@@ -68,9 +59,6 @@ join-parts-requires c κs =
     let (k, h) = start m .pre in
     let f = flagged m .before .occurring .ensures k in
     (k, cores-leadable h (same l k) f (l .labels .ensures k _ (h .first .table) f), h .room)
-
-same-length : tie.Need-same-length
-same-length c = search needs
 
 returns-3 : tie.Need-returns-3
 returns-3 c =
@@ -87,13 +75,13 @@ pub join-cores-spec : {M : Type 1} → statement M
 join-cores-spec =
     tie.close
     (tie.spec
-    same-bytes-requires
+    (λ c κs. search needs)
     returns
     occurring-requires
     occurring-requires-2
-    same-commands-requires
+    (λ c κs. search needs)
     returns-2
-    labels-requires
+    (λ c κs. search needs)
     join-parts-requires
-    same-length
+    (λ c. search needs)
     returns-3)

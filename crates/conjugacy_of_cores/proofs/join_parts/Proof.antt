@@ -38,9 +38,6 @@ join-at-requires c κs =
     let (k, h, r) = start l .pre in
     (omega arith, (k, sofar-placeable h (l .loop .inv .1 k h) (l .loop .inv .0) (omega arith) r))
 
-enum-known-way : tie.Need-enum-known-way Inv-loop μ-loop
-enum-known-way c = search needs
-
 same-length : tie.Need-same-length Inv-loop μ-loop
 same-length c =
     let a = c .before .before .before in
@@ -56,12 +53,6 @@ returns c =
     sofar-stop h s (a .join-at .last .1 .1 .1 .1 .1 .1 .1 .0) (a .join-at .result) (omega arith)
     (stops (a .join-at .result) (c .match .keys2))
     (a .join-at .ensures k (sofar-placeable h s (l .loop .inv .0) (omega arith) r))
-
-add-k : tie.Need-add-k Inv-loop μ-loop
-add-k c = omega arith
-
-loop-less : tie.Need-loop-less Inv-loop μ-loop
-loop-less c = omega arith
 
 loop-again : tie.Need-loop-again Inv-loop μ-loop
 loop-again c =
@@ -89,11 +80,11 @@ join-parts-spec =
     μ-loop
     loop-holds
     join-at-requires
-    enum-known-way
+    (λ c. search needs)
     same-length
     returns
-    add-k
-    loop-less
+    (λ c. omega arith)
+    (λ c. omega arith)
     loop-again
     same-length-2
     returns-2)

@@ -5,8 +5,8 @@ use mathlib.Core.List.{List}
 use borrow.Author.Needs.{needs}
 use Rattle.conjugacy_ring.specs.Ring.{Ringable, Rung}
 use Rattle.conjugacy_of_parts.specs.Lead.{Partable}
-use Rattle.conjugacy_of_parts.specs.PartLaws.{rings-of, rung-count, rung-fits, part-first, part-second, first-settled}
-use Rattle.conjugacy_of_parts.specs.PartLaws.{second-settled, way-turnable, way-cycled, way-leads}
+use Rattle.conjugacy_of_parts.specs.PartLaws.{rings-of, rung-count, rung-fits, part-first, part-second}
+use Rattle.conjugacy_of_parts.specs.PartLaws.{first-settled, second-settled, way-turnable, way-cycled, way-leads}
 use Rattle.conjugacy_of_parts.proofs.join_part.Statement.{statement}
 use Rattle.conjugacy_of_parts.proofs.join_part.Tie as tie
 
@@ -63,51 +63,21 @@ two : (q : tie.After-second) (k : List ℕ) → Asked (ringed (first q)) k
 two q k h =
     rings-of k _ _ _ _ _ _ _ (ringed2 q .ring-of2 .ensures k (second-asked (first q) k h)) (q .second .given .1)
 
-sheet-requires : tie.Need-sheet-requires
-sheet-requires c κs = search needs
-
-sheet-requires-2 : tie.Need-sheet-requires-2
-sheet-requires-2 c κs = search needs
-
-slice-aggregate-ring-of : tie.Need-slice-aggregate-ring-of
-slice-aggregate-ring-of c = search needs
-
 ring-of-requires : tie.Need-ring-of-requires
 ring-of-requires c κs =
     let s = c .before .before .before .before .before .before .before in
     (s .pre .0, part-first (s .pre .1) _ (c .before .before .before .sheet .ensures))
-
-enum-known-first : tie.Need-enum-known-first
-enum-known-first c = search needs
-
-enum-told : tie.Need-enum-told
-enum-told c = search needs
-
-same-length : tie.Need-same-length
-same-length c = search needs
 
 returns : tie.Need-returns
 returns c =
     let a = c .before .before .before .before .before in
     λ k h. absurd (first-settled h _ _ _ (a .ring-of .ensures k (first-asked a k h)) (c .enum-told .given .1))
 
-slice-aggregate-ring-of-2 : tie.Need-slice-aggregate-ring-of-2
-slice-aggregate-ring-of-2 c = search needs
-
 ring-of-requires-2 : tie.Need-ring-of-requires-2
 ring-of-requires-2 c κs =
     let p = c .before .before .before in
     let (k, h) = start (ringed p) .pre in
     (k, second-asked p k h)
-
-enum-known-second : tie.Need-enum-known-second
-enum-known-second c = search needs
-
-enum-told-2 : tie.Need-enum-told-2
-enum-told-2 c = search needs
-
-same-length-2 : tie.Need-same-length-2
-same-length-2 c = search needs
 
 returns-2 : tie.Need-returns-2
 returns-2 c =
@@ -147,9 +117,6 @@ join-rings-requires c κs =
     way-turnable h (one (first q) k h) (a .ring-of .kept .1 .1 .1 .1 .1 .1 .0) (two q k h)
     (ringed2 q .ring-of2 .kept .1 .1 .1 .1 .1 .1 .0)
 
-same-length-3 : tie.Need-same-length-3
-same-length-3 c = search needs
-
 returns-3 : tie.Need-returns-3
 returns-3 c =
     let q = c .before .before .before .before .before .before .before in
@@ -165,24 +132,24 @@ pub join-part-spec : {M : Type 1} → statement M
 join-part-spec =
     tie.close
     (tie.spec
-    sheet-requires
-    sheet-requires-2
-    slice-aggregate-ring-of
+    (λ c κs. search needs)
+    (λ c κs. search needs)
+    (λ c. search needs)
     ring-of-requires
-    enum-known-first
-    enum-told
-    same-length
+    (λ c. search needs)
+    (λ c. search needs)
+    (λ c. search needs)
     returns
-    slice-aggregate-ring-of-2
+    (λ c. search needs)
     ring-of-requires-2
-    enum-known-second
-    enum-told-2
-    same-length-2
+    (λ c. search needs)
+    (λ c. search needs)
+    (λ c. search needs)
     returns-2
     array-share-prefix-ring
     slice-aggregate-join-rings
     array-share-prefix-other
     slice-aggregate-join-rings-2
     join-rings-requires
-    same-length-3
+    (λ c. search needs)
     returns-3)

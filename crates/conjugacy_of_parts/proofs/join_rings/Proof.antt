@@ -8,7 +8,8 @@ use native.Mathlib.Omega.{arith}
 use borrow.Author.Needs.{needs}
 use Rattle.spec.specs.Letters.{alphabet}
 use Rattle.theory_conjugacy.specs.Rotation.{rotation}
-use Rattle.conjugacy_of_parts.specs.TurnLaws.{nowhere-apart, start-found, start-within, start-count, start-end, turned}
+use Rattle.conjugacy_of_parts.specs.TurnLaws.{nowhere-apart, start-found, start-within, start-count, start-end}
+use Rattle.conjugacy_of_parts.specs.TurnLaws.{turned}
 use Rattle.conjugacy_of_parts.proofs.join_rings.Statement.{statement}
 use Rattle.conjugacy_of_parts.proofs.join_rings.Tie as tie
 
@@ -24,15 +25,6 @@ other q = start q .args .other .now
 -- the place found, under every catalogue
 place : (q : tie.After-found) (k : List ℕ) → rotation (alphabet k) (ring q) (other q) ≡ some (q .found .given .0 .0)
 place q k = start-found k (ring q) (other q) (q .before .before .rotation .ensures k) (q .found .given .1)
-
-rotation-requires : tie.Need-rotation-requires
-rotation-requires c κs = search needs
-
-enum-known-found : tie.Need-enum-known-found
-enum-known-found c = search needs
-
-enum-told : tie.Need-enum-told
-enum-told c = search needs
 
 returns : tie.Need-returns
 returns c = λ k z t. nowhere-apart k _ _ (c .before .before .rotation .ensures k) (c .enum-told .given .1)
@@ -61,9 +53,6 @@ undo-between-requires c κs =
     let e = start-end [] (ring q) (other q) (place q []) s (a .ensures) in
     (omega (arith, s .ordered, a .ensures .ends), omega (arith, e, a .kept .0))
 
-same-length : tie.Need-same-length
-same-length c = search needs
-
 returns-2 : tie.Need-returns-2
 returns-2 c =
     let q = c .before .before .before .before .before .before .before .before .before .before in
@@ -77,12 +66,12 @@ pub join-rings-spec : {M : Type 1} → statement M
 join-rings-spec =
     tie.close
     (tie.spec
-    rotation-requires
-    enum-known-found
-    enum-told
+    (λ c κs. search needs)
+    (λ c. search needs)
+    (λ c. search needs)
     returns
     slice-aggregate-append-undone
     append-undone-requires
     undo-between-requires
-    same-length
+    (λ c. search needs)
     returns-2)

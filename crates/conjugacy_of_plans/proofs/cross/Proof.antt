@@ -4,7 +4,8 @@ use mathlib.Core.List.{List}
 use borrow.Author.Needs.{needs}
 use Rattle.conjugacy_of_parts.proofs.OutcomeLaws.{stops}
 use Rattle.conjugacy_of_plans.specs.Join.{Cores, LeadWord}
-use Rattle.conjugacy_of_plans.specs.JoinLaws.{word-stop, word-led, word-fits, word-given, word-formable, word-told}
+use Rattle.conjugacy_of_plans.specs.JoinLaws.{word-stop, word-led, word-fits, word-given, word-formable}
+use Rattle.conjugacy_of_plans.specs.JoinLaws.{word-told}
 use Rattle.conjugacy_of_plans.proofs.cross.Statement.{statement}
 use Rattle.conjugacy_of_plans.proofs.cross.Tie as tie
 
@@ -21,15 +22,6 @@ word : (q : tie.After-way) (k v w : List ℕ)
     Cores k (s .conflicts .now) v w (s .x .now) (s .g .now) (s .y .now) (s .h .now) (s .commands)
     → LeadWord k v w (led q .lead .last .1 .1 .1 .1 .1 .1 .0) (q .way .given .0 .0))
 word q k v w p = word-led k v w _ (led q .lead .ensures k v w p) (q .way .given .1)
-
-lead-requires : tie.Need-lead-requires
-lead-requires c κs = search needs
-
-enum-known-way : tie.Need-enum-known-way
-enum-known-way c = search needs
-
-same-length : tie.Need-same-length
-same-length c = search needs
 
 returns : tie.Need-returns
 returns c =
@@ -56,12 +48,6 @@ form-requires c κs =
     let (k, v, w, p, r, l) = start q .pre in
     (k, word-formable (p .plans) (word q k v w p) l)
 
-same-length-2 : tie.Need-same-length-2
-same-length-2 c = search needs
-
-same-length-3 : tie.Need-same-length-3
-same-length-3 c = search needs
-
 returns-2 : tie.Need-returns-2
 returns-2 c =
     let n = c .before .before in
@@ -73,13 +59,13 @@ pub cross-spec : {M : Type 1} → statement M
 cross-spec =
     tie.close
     (tie.spec
-    lead-requires
-    enum-known-way
-    same-length
+    (λ c κs. search needs)
+    (λ c. search needs)
+    (λ c. search needs)
     returns
     slice-reshare-prefix-form
     slice-aggregate-form
     form-requires
-    same-length-2
-    same-length-3
+    (λ c. search needs)
+    (λ c. search needs)
     returns-2)

@@ -46,18 +46,6 @@ cores : (o : tie.After-form-of2) (k : List ℕ) → Asked o k
     (take (t .result .lead) (t .last .1 .1 .1 .0)) (s .commands))
 cores o k p = record { plans = p; first = stripped (one o k p); second = stripped (two o k p) }
 
-sheet-requires : tie.Need-sheet-requires
-sheet-requires c κs = search needs
-
-sheet-requires-2 : tie.Need-sheet-requires-2
-sheet-requires-2 c κs = search needs
-
-slice-aggregate-form-of : tie.Need-slice-aggregate-form-of
-slice-aggregate-form-of c = search needs
-
-slice-aggregate-form-of-2 : tie.Need-slice-aggregate-form-of-2
-slice-aggregate-form-of-2 c = search needs
-
 form-of-requires : tie.Need-form-of-requires
 form-of-requires c κs =
     let s = c .before .before .before .before .before .before .before in
@@ -69,18 +57,6 @@ form-of-requires c κs =
         deep = omega (arith, p .short, c .before .before .sheet2 .ensures);
       },
     )
-
-sheet-requires-3 : tie.Need-sheet-requires-3
-sheet-requires-3 c κs = search needs
-
-sheet-requires-4 : tie.Need-sheet-requires-4
-sheet-requires-4 c κs = search needs
-
-slice-aggregate-form-of-3 : tie.Need-slice-aggregate-form-of-3
-slice-aggregate-form-of-3 c = search needs
-
-slice-aggregate-form-of-4 : tie.Need-slice-aggregate-form-of-4
-slice-aggregate-form-of-4 c = search needs
 
 form-of-requires-2 : tie.Need-form-of-requires-2
 form-of-requires-2 c κs =
@@ -141,9 +117,6 @@ span-requires c κs =
     let (k, p, f) = start o .pre in
     (k, _, _, cores o k p, cores-room (cores o k p), f)
 
-same-length : tie.Need-same-length
-same-length c = search needs
-
 returns : tie.Need-returns
 returns c =
     let o = c .before .before .before .before .before .before .before .before .before .before in
@@ -153,15 +126,15 @@ pub join-spec : {M : Type 1} → statement M
 join-spec =
     tie.close
     (tie.spec
-    sheet-requires
-    sheet-requires-2
-    slice-aggregate-form-of
-    slice-aggregate-form-of-2
+    (λ c κs. search needs)
+    (λ c κs. search needs)
+    (λ c. search needs)
+    (λ c. search needs)
     form-of-requires
-    sheet-requires-3
-    sheet-requires-4
-    slice-aggregate-form-of-3
-    slice-aggregate-form-of-4
+    (λ c κs. search needs)
+    (λ c κs. search needs)
+    (λ c. search needs)
+    (λ c. search needs)
     form-of-requires-2
     array-share-prefix-x
     slice-aggregate-span
@@ -172,5 +145,5 @@ join-spec =
     array-share-prefix-h
     slice-aggregate-span-4
     span-requires
-    same-length
+    (λ c. search needs)
     returns)

@@ -6,7 +6,8 @@ use borrow.Author.Needs.{needs}
 use Rattle.conjugacy_of_cores.specs.Pair.{CoresLead, CoresLed}
 use Rattle.conjugacy_of_parts.proofs.OutcomeLaws.{stops}
 use Rattle.conjugacy_of_plans.specs.Join.{Cores}
-use Rattle.conjugacy_of_plans.specs.JoinLaws.{join-off, join-coreable, join-short, join-stop, join-word, cores-led}
+use Rattle.conjugacy_of_plans.specs.JoinLaws.{join-off, join-coreable, join-short, join-stop, join-word}
+use Rattle.conjugacy_of_plans.specs.JoinLaws.{cores-led}
 use Rattle.conjugacy_of_plans.proofs.lead.Statement.{statement}
 use Rattle.conjugacy_of_plans.proofs.lead.Tie as tie
 
@@ -52,12 +53,6 @@ join-cores-requires c κs =
     let s = a .before .before .before .before .before .before .before in
     (s .pre .0, join-coreable (s .pre .3) (s .args .row .now) (s .pre .4) (a .append .ensures))
 
-enum-known-way : tie.Need-enum-known-way
-enum-known-way c = search needs
-
-same-length : tie.Need-same-length
-same-length c = search needs
-
 returns : tie.Need-returns
 returns c =
     let j = c .before .before .before in
@@ -73,9 +68,6 @@ append-undone-requires c κs =
     let (k, v, w, p, r) = start j .pre in
     let l = join-short p (start j .args .row .now) r (a .ensures) (way-led q k v w p) in
     omega (arith, l, j .join-cores .kept .1 .1 .1 .1 .0, a .kept .0)
-
-same-length-2 : tie.Need-same-length-2
-same-length-2 c = search needs
 
 returns-2 : tie.Need-returns-2
 returns-2 c =
@@ -96,9 +88,9 @@ lead-spec =
     (tie.spec
     append-requires
     join-cores-requires
-    enum-known-way
-    same-length
+    (λ c. search needs)
+    (λ c. search needs)
     returns
     append-undone-requires
-    same-length-2
+    (λ c. search needs)
     returns-2)

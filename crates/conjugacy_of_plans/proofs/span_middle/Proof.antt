@@ -4,24 +4,12 @@ use borrow.Author.Needs.{needs}
 use Rattle.conjugacy_of_plans.proofs.span_middle.Statement.{statement}
 use Rattle.conjugacy_of_plans.proofs.span_middle.Tie as tie
 
-middle-row-requires : tie.Need-middle-row-requires
-middle-row-requires c κs = search needs
-
-slice-aggregate-cross : tie.Need-slice-aggregate-cross
-slice-aggregate-cross c = search needs
-
 cross-requires : tie.Need-cross-requires
 cross-requires c κs =
     let (k, v, w, p, r, f) = c .before .before .before .before .before .before .before .before .pre in
     (k, v, w, p, omega (arith, r, c .before .before .middle-row .ensures), f)
 
-same-length : tie.Need-same-length
-same-length c = search needs
-
-returns : tie.Need-returns
-returns c = search needs
-
 pub span-middle-spec : {M : Type 1} → statement M
 span-middle-spec =
     tie.close
-    (tie.spec middle-row-requires slice-aggregate-cross cross-requires same-length returns)
+    (tie.spec (λ c κs. search needs) (λ c. search needs) cross-requires (λ c. search needs) (λ c. search needs))

@@ -11,9 +11,9 @@ use Rattle.spec.specs.Letters.{alphabet}
 use Rattle.theory_conjugacy.specs.Part as Part
 use Rattle.conjugacy_settling.specs.Settling.{Settleable, Ended}
 use Rattle.conjugacy_ring.specs.Ring.{Ringable}
-use Rattle.conjugacy_ring.specs.RingLaws.{cyclic-lettered, ringable-settle}
-use Rattle.conjugacy_ring.specs.RingLaws.{ringable-unsettled, answered-done, answered-unsettled, ended-take, ended-fits}
-use Rattle.conjugacy_ring.specs.RingLaws.{ended-count, ended-given, ended-formable, ended-rung}
+use Rattle.conjugacy_ring.specs.RingLaws.{cyclic-lettered, ringable-settle, ringable-unsettled, answered-done}
+use Rattle.conjugacy_ring.specs.RingLaws.{answered-unsettled, ended-take, ended-fits, ended-count, ended-given}
+use Rattle.conjugacy_ring.specs.RingLaws.{ended-formable, ended-rung}
 use Rattle.conjugacy_ring.proofs.ring_of.Statement.{statement}
 use Rattle.conjugacy_ring.proofs.ring_of.Tie as tie
 
@@ -57,18 +57,6 @@ ended q k h =
     answered-done k _ _ _ _ _ _ _ (settling q .settle .ensures k (settleable (copy (settling q)) k h))
     (q .settled .given .1)
 
-sheet-requires : tie.Need-sheet-requires
-sheet-requires c κs = search needs
-
-sheet-requires-2 : tie.Need-sheet-requires-2
-sheet-requires-2 c κs = search needs
-
-sheet-requires-3 : tie.Need-sheet-requires-3
-sheet-requires-3 c κs = search needs
-
-slice-aggregate-part : tie.Need-slice-aggregate-part
-slice-aggregate-part c = search needs
-
 part-requires : tie.Need-part-requires
 part-requires c κs =
     let h = c .before .before .before .before .before .before .before .pre .1 .core .cyclic in
@@ -86,26 +74,11 @@ slice-aggregate-settle c =
     let (k, h) = start p .pre in
     starts-count (copied p k h)
 
-slice-aggregate-settle-2 : tie.Need-slice-aggregate-settle-2
-slice-aggregate-settle-2 c = search needs
-
-slice-aggregate-settle-3 : tie.Need-slice-aggregate-settle-3
-slice-aggregate-settle-3 c = search needs
-
 settle-requires : tie.Need-settle-requires
 settle-requires c κs =
     let p = c .before .before .before .before .before in
     let (k, h) = start p .pre in
     (k, settleable p k h)
-
-enum-known-settled : tie.Need-enum-known-settled
-enum-known-settled c = search needs
-
-enum-told : tie.Need-enum-told
-enum-told c = search needs
-
-same-length : tie.Need-same-length
-same-length c = search needs
 
 returns : tie.Need-returns
 returns c =
@@ -140,12 +113,6 @@ form-requires c κs =
     let o = ended q k h in
     (k, ended-formable h d o (ended-take h d o _ _ (starts-count (copied p k h))) refl)
 
-same-length-2 : tie.Need-same-length-2
-same-length-2 c = search needs
-
-same-length-3 : tie.Need-same-length-3
-same-length-3 c = search needs
-
 returns-2 : tie.Need-returns-2
 returns-2 c =
     let q = c .before .before .before .before .before .before in
@@ -160,23 +127,23 @@ pub ring-of-spec : {M : Type 1} → statement M
 ring-of-spec =
     tie.close
     (tie.spec
-    sheet-requires
-    sheet-requires-2
-    sheet-requires-3
-    slice-aggregate-part
+    (λ c κs. search needs)
+    (λ c κs. search needs)
+    (λ c κs. search needs)
+    (λ c. search needs)
     part-requires
     array-borrow-prefix-word
     slice-aggregate-settle
-    slice-aggregate-settle-2
-    slice-aggregate-settle-3
+    (λ c. search needs)
+    (λ c. search needs)
     settle-requires
-    enum-known-settled
-    enum-told
-    same-length
+    (λ c. search needs)
+    (λ c. search needs)
+    (λ c. search needs)
     returns
     array-share-prefix-word
     slice-aggregate-form
     form-requires
-    same-length-2
-    same-length-3
+    (λ c. search needs)
+    (λ c. search needs)
     returns-2)

@@ -1,11 +1,11 @@
--- `conjugacy_rotation::rotation` meets its contract. The outer loop has passed the places at which the rings differ; the
--- inner ones have compared the letters before the end of the ring, and then those past it. Assumes nothing.
+-- `conjugacy_rotation::rotation` meets its contract. The outer loop has passed the places at which the rings differ;
+-- the inner ones have compared the letters before the end of the ring, and then those past it. Assumes nothing.
 use Prim.Native.Nat.{_-_}
 use native.Mathlib.Omega.{arith}
 use lib.ListN.{length}
-use Rattle.conjugacy_rotation.specs.SearchLaws.{Passed, Near, Far, rotation-uneven, empty-at, passed-start, passed-all}
-use Rattle.conjugacy_rotation.specs.SearchLaws.{near-start, near-ahead, near-more, near-less, near-far}
-use Rattle.conjugacy_rotation.specs.SearchLaws.{far-ahead, far-more, far-less, far-all}
+use Rattle.conjugacy_rotation.specs.SearchLaws.{Passed, Near, Far, rotation-uneven, empty-at, passed-start}
+use Rattle.conjugacy_rotation.specs.SearchLaws.{passed-all, near-start, near-ahead, near-more, near-less}
+use Rattle.conjugacy_rotation.specs.SearchLaws.{near-far, far-ahead, far-more, far-less, far-all}
 use Rattle.conjugacy_rotation.proofs.rotation.Statement.{statement}
 use Rattle.conjugacy_rotation.proofs.rotation.Tie as tie
 
@@ -40,35 +40,14 @@ returns-2 c =
 starts-holds : tie.Need-starts-holds Inv-loop μ-loop Inv-loop2 μ-loop2 Inv-starts μ-starts
 starts-holds c = passed-start (c .before .if1 .left) (c .if2 .left)
 
-sub-rest : tie.Need-sub-rest Inv-loop μ-loop Inv-loop2 μ-loop2 Inv-starts μ-starts
-sub-rest c = omega arith
-
 loop-holds : tie.Need-loop-holds Inv-loop μ-loop Inv-loop2 μ-loop2 Inv-starts μ-starts
 loop-holds c = near-start (c .before .starts .inv) (c .if3 .left)
-
-add-stride : tie.Need-add-stride Inv-loop μ-loop Inv-loop2 μ-loop2 Inv-starts μ-starts
-add-stride c = omega arith
-
-sub-stride : tie.Need-sub-stride Inv-loop μ-loop Inv-loop2 μ-loop2 Inv-starts μ-starts
-sub-stride c = omega arith
 
 stride-requires : tie.Need-stride-requires Inv-loop μ-loop Inv-loop2 μ-loop2 Inv-starts μ-starts
 stride-requires c κs = near-ahead (c .before .loop .inv) (omega arith)
 
-add-i : tie.Need-add-i Inv-loop μ-loop Inv-loop2 μ-loop2 Inv-starts μ-starts
-add-i c = omega arith
-
-starts-less : tie.Need-starts-less Inv-loop μ-loop Inv-loop2 μ-loop2 Inv-starts μ-starts
-starts-less c = omega arith
-
 starts-again : tie.Need-starts-again Inv-loop μ-loop Inv-loop2 μ-loop2 Inv-starts μ-starts
 starts-again c = near-less (c .before .before .before .loop .inv) (c .before .stride .ensures) (c .if4 .taken)
-
-add-j : tie.Need-add-j Inv-loop μ-loop Inv-loop2 μ-loop2 Inv-starts μ-starts
-add-j c = omega arith
-
-loop-less : tie.Need-loop-less Inv-loop μ-loop Inv-loop2 μ-loop2 Inv-starts μ-starts
-loop-less c = omega arith
 
 loop-again : tie.Need-loop-again Inv-loop μ-loop Inv-loop2 μ-loop2 Inv-starts μ-starts
 loop-again c = near-more (c .before .before .before .loop .inv) (c .before .stride .ensures)
@@ -76,30 +55,12 @@ loop-again c = near-more (c .before .before .before .loop .inv) (c .before .stri
 loop2-holds : tie.Need-loop2-holds Inv-loop μ-loop Inv-loop2 μ-loop2 Inv-starts μ-starts
 loop2-holds c = near-far (c .before .loop .inv) (omega arith)
 
-add-stride-2 : tie.Need-add-stride-2 Inv-loop μ-loop Inv-loop2 μ-loop2 Inv-starts μ-starts
-add-stride-2 c = omega arith
-
-sub-stride-2 : tie.Need-sub-stride-2 Inv-loop μ-loop Inv-loop2 μ-loop2 Inv-starts μ-starts
-sub-stride-2 c = omega arith
-
 stride-requires-2 :
     tie.Need-stride-requires-2 Inv-loop μ-loop Inv-loop2 μ-loop2 Inv-starts μ-starts
 stride-requires-2 c κs = far-ahead (c .before .loop2 .inv) (omega arith)
 
-add-i-2 : tie.Need-add-i-2 Inv-loop μ-loop Inv-loop2 μ-loop2 Inv-starts μ-starts
-add-i-2 c = omega arith
-
-starts-less-2 : tie.Need-starts-less-2 Inv-loop μ-loop Inv-loop2 μ-loop2 Inv-starts μ-starts
-starts-less-2 c = omega arith
-
 starts-again-2 : tie.Need-starts-again-2 Inv-loop μ-loop Inv-loop2 μ-loop2 Inv-starts μ-starts
 starts-again-2 c = far-less (c .before .before .before .loop2 .inv) (c .before .stride2 .ensures) (c .if5 .taken)
-
-add-k : tie.Need-add-k Inv-loop μ-loop Inv-loop2 μ-loop2 Inv-starts μ-starts
-add-k c = omega arith
-
-loop2-less : tie.Need-loop2-less Inv-loop μ-loop Inv-loop2 μ-loop2 Inv-starts μ-starts
-loop2-less c = omega arith
 
 loop2-again : tie.Need-loop2-again Inv-loop μ-loop Inv-loop2 μ-loop2 Inv-starts μ-starts
 loop2-again c = far-more (c .before .before .before .loop2 .inv) (c .before .stride2 .ensures)
@@ -123,26 +84,26 @@ rotation-spec =
     returns
     returns-2
     starts-holds
-    sub-rest
+    (λ c. omega arith)
     loop-holds
-    add-stride
-    sub-stride
+    (λ c. omega arith)
+    (λ c. omega arith)
     stride-requires
-    add-i
-    starts-less
+    (λ c. omega arith)
+    (λ c. omega arith)
     starts-again
-    add-j
-    loop-less
+    (λ c. omega arith)
+    (λ c. omega arith)
     loop-again
     loop2-holds
-    add-stride-2
-    sub-stride-2
+    (λ c. omega arith)
+    (λ c. omega arith)
     stride-requires-2
-    add-i-2
-    starts-less-2
+    (λ c. omega arith)
+    (λ c. omega arith)
     starts-again-2
-    add-k
-    loop2-less
+    (λ c. omega arith)
+    (λ c. omega arith)
     loop2-again
     returns-3
     returns-4)

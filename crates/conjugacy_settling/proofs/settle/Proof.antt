@@ -1,9 +1,9 @@
--- `conjugacy_settling::settle` meets its contract. The loop's invariant: the rounds done lead to the word, and the rounds left lead
--- on from it. Assumes nothing.
+-- `conjugacy_settling::settle` meets its contract. The loop's invariant: the rounds done lead to the word, and the
+-- rounds left lead on from it. Assumes nothing.
 use native.Mathlib.Omega.{arith}
 use borrow.Author.Needs.{needs}
-use Rattle.conjugacy_settling.specs.SettlingLaws.{Rounds, rounds-start, rounds-splittable, rounds-exchange, rounds-done}
-use Rattle.conjugacy_settling.specs.SettlingLaws.{rounds-unsettled, rounds-again}
+use Rattle.conjugacy_settling.specs.SettlingLaws.{Rounds, rounds-start, rounds-splittable, rounds-exchange}
+use Rattle.conjugacy_settling.specs.SettlingLaws.{rounds-done, rounds-unsettled, rounds-again}
 use Rattle.conjugacy_settling.proofs.settle.Statement.{statement}
 use Rattle.conjugacy_settling.proofs.settle.Tie as tie
 
@@ -23,34 +23,10 @@ split-requires c κs =
     let g = l .before .before .before .before .before .pre in
     (g .0, rounds-splittable (l .loop .inv) (g .1))
 
-same-length : tie.Need-same-length Inv-loop μ-loop
-same-length c = search needs
-
-same-length-2 : tie.Need-same-length-2 Inv-loop μ-loop
-same-length-2 c = search needs
-
-same-length-3 : tie.Need-same-length-3 Inv-loop μ-loop
-same-length-3 c = search needs
-
-same-length-4 : tie.Need-same-length-4 Inv-loop μ-loop
-same-length-4 c = search needs
-
 returns : tie.Need-returns Inv-loop μ-loop
 returns c =
     let s = c .before .before .before .before .before in
     rounds-done (s .before .before .before .before .loop .inv) (s .split .ensures) (c .if1 .taken)
-
-same-length-5 : tie.Need-same-length-5 Inv-loop μ-loop
-same-length-5 c = search needs
-
-same-length-6 : tie.Need-same-length-6 Inv-loop μ-loop
-same-length-6 c = search needs
-
-same-length-7 : tie.Need-same-length-7 Inv-loop μ-loop
-same-length-7 c = search needs
-
-same-length-8 : tie.Need-same-length-8 Inv-loop μ-loop
-same-length-8 c = search needs
 
 returns-2 : tie.Need-returns-2 Inv-loop μ-loop
 returns-2 c =
@@ -75,12 +51,6 @@ add-end c =
     let x = rounds-exchange (l .loop .inv) (s .split .ensures) (i .pre .1) (e .if2 .left) in
     omega (arith, x .room, l .loop .inv .sameOut, i .good)
 
-sub-left : tie.Need-sub-left Inv-loop μ-loop
-sub-left c = omega arith
-
-loop-less : tie.Need-loop-less Inv-loop μ-loop
-loop-less c = omega arith
-
 loop-again : tie.Need-loop-again Inv-loop μ-loop
 loop-again c =
     let r = c .before .before .before .before in
@@ -98,18 +68,18 @@ settle-spec =
     μ-loop
     loop-holds
     split-requires
-    same-length
-    same-length-2
-    same-length-3
-    same-length-4
+    (λ c. search needs)
+    (λ c. search needs)
+    (λ c. search needs)
+    (λ c. search needs)
     returns
-    same-length-5
-    same-length-6
-    same-length-7
-    same-length-8
+    (λ c. search needs)
+    (λ c. search needs)
+    (λ c. search needs)
+    (λ c. search needs)
     returns-2
     round-requires
     add-end
-    sub-left
-    loop-less
+    (λ c. omega arith)
+    (λ c. omega arith)
     loop-again)

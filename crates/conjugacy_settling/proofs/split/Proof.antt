@@ -1,10 +1,10 @@
--- `conjugacy_settling::split` meets its contract. The loop's invariant: the letters passed are split, and what the rest splits into
--- comes behind them. Assumes nothing.
+-- `conjugacy_settling::split` meets its contract. The loop's invariant: the letters passed are split, and what the rest
+-- splits into comes behind them. Assumes nothing.
 use Prim.Native.Nat.{_-_}
 use native.Mathlib.Omega.{arith}
 use lib.ListN.{length}
-use Rattle.conjugacy_settling.specs.HalvingLaws.{Halving, halving-start, halving-place, halving-again, halving-lengths}
-use Rattle.conjugacy_settling.specs.HalvingLaws.{halving-end}
+use Rattle.conjugacy_settling.specs.HalvingLaws.{Halving, halving-start, halving-place, halving-again}
+use Rattle.conjugacy_settling.specs.HalvingLaws.{halving-lengths, halving-end}
 use Rattle.conjugacy_settling.proofs.split.Statement.{statement}
 use Rattle.conjugacy_settling.proofs.split.Tie as tie
 
@@ -15,25 +15,13 @@ Inv-loop word apex conflicts low₀ high₀ raised₀ ends₀ i₀ low high rais
 abbrev μ-loop : tie.MeasureT-loop
 μ-loop word apex conflicts low₀ high₀ raised₀ ends₀ i₀ low high raised ends i = length word - i
 
-none-requires : tie.Need-none-requires Inv-loop μ-loop
-none-requires c κs = tt
-
 loop-holds : tie.Need-loop-holds Inv-loop μ-loop
 loop-holds c = halving-start (c .none .ensures)
-
-shared-slice-read-place : tie.Need-shared-slice-read-place Inv-loop μ-loop
-shared-slice-read-place c = omega arith
 
 place-requires : tie.Need-place-requires Inv-loop μ-loop
 place-requires c κs =
     let l = c .before .before .before .before .before in
     halving-place (l .loop .inv) (l .before .before .before .before .before .pre .1) (omega arith)
-
-add-i : tie.Need-add-i Inv-loop μ-loop
-add-i c = omega arith
-
-loop-less : tie.Need-loop-less Inv-loop μ-loop
-loop-less c = omega arith
 
 loop-again : tie.Need-loop-again Inv-loop μ-loop
 loop-again c =
@@ -60,12 +48,12 @@ split-spec =
     (tie.spec
     Inv-loop
     μ-loop
-    none-requires
+    (λ c κs. tt)
     loop-holds
-    shared-slice-read-place
+    (λ c. omega arith)
     place-requires
-    add-i
-    loop-less
+    (λ c. omega arith)
+    (λ c. omega arith)
     loop-again
     same-length
     same-length-2

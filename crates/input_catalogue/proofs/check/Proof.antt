@@ -28,15 +28,6 @@ next-none c =
     let cat = c .before .before .before .before .before .before .before .before .before .before .args .c .now in
     passed-none cat (nextLine cat) (r .result) (r .ensures) (c .enum-told5 .given .1)
 
-framed-requires : tie.Need-framed-requires
-framed-requires c κs = search needs
-
-enum-told : tie.Need-enum-told
-enum-told c = search needs
-
-enum-told-2 : tie.Need-enum-told-2
-enum-told-2 c = search needs
-
 returns : tie.Need-returns
 returns c =
     let r = c .before .before .framed in
@@ -46,12 +37,6 @@ returns c =
 
 heads-requires : tie.Need-heads-requires
 heads-requires c κs = framed-from (c .before .before .before .before .args .c .now) (frame-none c)
-
-enum-told-3 : tie.Need-enum-told-3
-enum-told-3 c = search needs
-
-enum-told-4 : tie.Need-enum-told-4
-enum-told-4 c = search needs
 
 returns-2 : tie.Need-returns-2
 returns-2 c =
@@ -66,12 +51,6 @@ nexts-requires : tie.Need-nexts-requires
 nexts-requires c κs =
     let x = c .before .before .before in
     framed-from (x .before .before .before .before .args .c .now) (frame-none x)
-
-enum-told-5 : tie.Need-enum-told-5
-enum-told-5 c = search needs
-
-enum-told-6 : tie.Need-enum-told-6
-enum-told-6 c = search needs
 
 returns-3 : tie.Need-returns-3
 returns-3 c =
@@ -105,17 +84,17 @@ pub check-spec : {M : Type 1} → statement M
 check-spec =
     tie.close
     (tie.spec
-    framed-requires
-    enum-told
-    enum-told-2
+    (λ c κs. search needs)
+    (λ c. search needs)
+    (λ c. search needs)
     returns
     heads-requires
-    enum-told-3
-    enum-told-4
+    (λ c. search needs)
+    (λ c. search needs)
     returns-2
     nexts-requires
-    enum-told-5
-    enum-told-6
+    (λ c. search needs)
+    (λ c. search needs)
     returns-3
     named-requires
     returns-4)

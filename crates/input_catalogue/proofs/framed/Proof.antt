@@ -5,25 +5,16 @@ use Rattle.input_catalogue.specs.SoundLaws.{decides, passes, frame-short
 use Rattle.input_catalogue.proofs.framed.Statement.{statement}
 use Rattle.input_catalogue.proofs.framed.Tie as tie
 
-refused-requires : tie.Need-refused-requires
-refused-requires c κs = search needs
-
 returns : tie.Need-returns
 returns c =
     let cat = c .before .before .before .args .c .now in
     decides cat (c .refused .result) (frame-short cat (c .before .if1 .taken)) (c .refused .ensures)
-
-shared-slice-read-n : tie.Need-shared-slice-read-n
-shared-slice-read-n c = search needs
 
 cast-n : tie.Need-cast-n
 cast-n c = omega (arith, c .shared-slice-known2 .given 0)
 
 add-if2 : tie.Need-add-if2
 add-if2 c = omega (arith, c .shared-slice-known2 .given 0)
-
-shared-slice-read-if2 : tie.Need-shared-slice-read-if2
-shared-slice-read-if2 c = search needs
 
 cast-if2 : tie.Need-cast-if2
 cast-if2 c = omega (arith, c .shared-slice-known3 .given 1)
@@ -34,17 +25,11 @@ mul-if2 c = omega (arith, c .shared-slice-known3 .given 1)
 add-if2-2 : tie.Need-add-if2-2
 add-if2-2 c = omega (arith, c .shared-slice-known3 .given 0, c .shared-slice-known3 .given 1)
 
-refused-requires-2 : tie.Need-refused-requires-2
-refused-requires-2 c κs = search needs
-
 returns-2 : tie.Need-returns-2
 returns-2 c =
     let cat = c .before .before .before .before .before .before .args .c .now in
     let wrong = frame-wrong cat (c .before .before .before .before .if1 .left) (c .before .if2 .taken) in
     decides cat (c .refused2 .result) wrong (c .refused2 .ensures)
-
-refused-requires-3 : tie.Need-refused-requires-3
-refused-requires-3 c κs = search needs
 
 returns-3 : tie.Need-returns-3
 returns-3 c =
@@ -61,17 +46,17 @@ pub framed-spec : {M : Type 1} → statement M
 framed-spec =
     tie.close
     (tie.spec
-    refused-requires
+    (λ c κs. search needs)
     returns
-    shared-slice-read-n
+    (λ c. search needs)
     cast-n
     add-if2
-    shared-slice-read-if2
+    (λ c. search needs)
     cast-if2
     mul-if2
     add-if2-2
-    refused-requires-2
+    (λ c κs. search needs)
     returns-2
-    refused-requires-3
+    (λ c κs. search needs)
     returns-3
     returns-4)

@@ -15,31 +15,10 @@ Inv-loop c n a₀ a = Searching (highHead c) (commands c) 1 a
 abbrev μ-loop : tie.MeasureT-loop
 μ-loop c n a₀ a = commands c + 1 - a
 
-shared-slice-read-n : tie.Need-shared-slice-read-n Inv-loop μ-loop
-shared-slice-read-n c = omega arith
-
-cast-n : tie.Need-cast-n Inv-loop μ-loop
-cast-n c = omega arith
-
 loop-holds : tie.Need-loop-holds Inv-loop μ-loop
 loop-holds c =
     let cat = c .before .before .args .c .now in
     search-start (highHead cat) (commands cat) 1
-
-shared-slice-read-if1 : tie.Need-shared-slice-read-if1 Inv-loop μ-loop
-shared-slice-read-if1 c = omega arith
-
-add-if1 : tie.Need-add-if1 Inv-loop μ-loop
-add-if1 c = omega arith
-
-shared-slice-read-if1-2 : tie.Need-shared-slice-read-if1-2 Inv-loop μ-loop
-shared-slice-read-if1-2 c = omega arith
-
-add-refused : tie.Need-add-refused Inv-loop μ-loop
-add-refused c = omega arith
-
-refused-requires : tie.Need-refused-requires Inv-loop μ-loop
-refused-requires c κs = omega arith
 
 returns : tie.Need-returns Inv-loop μ-loop
 returns c =
@@ -48,12 +27,6 @@ returns c =
     let high = head-high cat (g .a) (omega arith) (c .before .if1 .taken) in
     let hit = search-hit (highHead cat) (g .inv) (omega arith) high in
     decides cat (c .refused .result) (ap (lineAt 3 0 headPlace) hit) (c .refused .ensures)
-
-add-a : tie.Need-add-a Inv-loop μ-loop
-add-a c = omega arith
-
-loop-less : tie.Need-loop-less Inv-loop μ-loop
-loop-less c = omega arith
 
 loop-again : tie.Need-loop-again Inv-loop μ-loop
 loop-again c =
@@ -72,16 +45,16 @@ heads-spec =
     (tie.spec
     Inv-loop
     μ-loop
-    shared-slice-read-n
-    cast-n
+    (λ c. omega arith)
+    (λ c. omega arith)
     loop-holds
-    shared-slice-read-if1
-    add-if1
-    shared-slice-read-if1-2
-    add-refused
-    refused-requires
+    (λ c. omega arith)
+    (λ c. omega arith)
+    (λ c. omega arith)
+    (λ c. omega arith)
+    (λ c κs. omega arith)
     returns
-    add-a
-    loop-less
+    (λ c. omega arith)
+    (λ c. omega arith)
     loop-again
     returns-2)

@@ -6,7 +6,8 @@ use mathlib.Core.Logic.{⊎-elim}
 use Rattle.spec.specs.Table.{lineAt}
 use Rattle.spec_laws.specs.SearchLaws.{Searching, search-start, search-again, search-hit, search-end}
 use Rattle.spec.specs.Catalogue.{records, commandPlace}
-use Rattle.input_catalogue.specs.SoundLaws.{decides, passes, wrongCommand, command-zero, command-high, command-fine}
+use Rattle.input_catalogue.specs.SoundLaws.{decides, passes, wrongCommand, command-zero, command-high}
+use Rattle.input_catalogue.specs.SoundLaws.{command-fine}
 use Rattle.input_catalogue.proofs.named.Statement.{statement}
 use Rattle.input_catalogue.proofs.named.Tie as tie
 
@@ -16,43 +17,10 @@ Inv-loop c n r j₀ j = Searching (wrongCommand c) (records c) 1 j
 abbrev μ-loop : tie.MeasureT-loop
 μ-loop c n r j₀ j = records c + 1 - j
 
-shared-slice-read-n : tie.Need-shared-slice-read-n Inv-loop μ-loop
-shared-slice-read-n c = omega arith
-
-cast-n : tie.Need-cast-n Inv-loop μ-loop
-cast-n c = omega arith
-
-shared-slice-read-r : tie.Need-shared-slice-read-r Inv-loop μ-loop
-shared-slice-read-r c = omega arith
-
-cast-r : tie.Need-cast-r Inv-loop μ-loop
-cast-r c = omega arith
-
 loop-holds : tie.Need-loop-holds Inv-loop μ-loop
 loop-holds c =
     let cat = c .before .before .before .args .c .now in
     search-start (wrongCommand cat) (records cat) 1
-
-mul-k : tie.Need-mul-k Inv-loop μ-loop
-mul-k c = omega arith
-
-add-k : tie.Need-add-k Inv-loop μ-loop
-add-k c = omega arith
-
-shared-slice-read-k : tie.Need-shared-slice-read-k Inv-loop μ-loop
-shared-slice-read-k c = omega arith
-
-shared-slice-read-if2 : tie.Need-shared-slice-read-if2 Inv-loop μ-loop
-shared-slice-read-if2 c = omega arith
-
-mul-refused : tie.Need-mul-refused Inv-loop μ-loop
-mul-refused c = omega arith
-
-add-refused : tie.Need-add-refused Inv-loop μ-loop
-add-refused c = omega arith
-
-refused-requires : tie.Need-refused-requires Inv-loop μ-loop
-refused-requires c κs = omega arith
 
 returns : tie.Need-returns Inv-loop μ-loop
 returns c =
@@ -62,12 +30,6 @@ returns c =
     let wrong = ⊎-elim (λ w. command-zero cat (g .j) (w .taken)) (λ w. command-high cat (g .j) (w .2 .taken)) came in
     let hit = search-hit (wrongCommand cat) (g .inv) (omega arith) wrong in
     decides cat (c .refused .result) (ap (lineAt 4 0 (commandPlace cat)) hit) (c .refused .ensures)
-
-add-j : tie.Need-add-j Inv-loop μ-loop
-add-j c = omega arith
-
-loop-less : tie.Need-loop-less Inv-loop μ-loop
-loop-less c = omega arith
 
 loop-again : tie.Need-loop-again Inv-loop μ-loop
 loop-again c =
@@ -87,20 +49,20 @@ named-spec =
     (tie.spec
     Inv-loop
     μ-loop
-    shared-slice-read-n
-    cast-n
-    shared-slice-read-r
-    cast-r
+    (λ c. omega arith)
+    (λ c. omega arith)
+    (λ c. omega arith)
+    (λ c. omega arith)
     loop-holds
-    mul-k
-    add-k
-    shared-slice-read-k
-    shared-slice-read-if2
-    mul-refused
-    add-refused
-    refused-requires
+    (λ c. omega arith)
+    (λ c. omega arith)
+    (λ c. omega arith)
+    (λ c. omega arith)
+    (λ c. omega arith)
+    (λ c. omega arith)
+    (λ c κs. omega arith)
     returns
-    add-j
-    loop-less
+    (λ c. omega arith)
+    (λ c. omega arith)
     loop-again
     returns-2)

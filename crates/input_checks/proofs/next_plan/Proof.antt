@@ -28,9 +28,6 @@ returns c =
 check-requires : tie.Need-check-requires
 check-requires c κs = search needs
 
-enum-told-2 : tie.Need-enum-told-2
-enum-told-2 c = search needs
-
 -- src/lib.rt:25:9
 enum-told-3 : tie.Need-enum-told-3
 enum-told-3 c = search needs
@@ -63,7 +60,7 @@ next-plan-spec =
     enum-told
     returns
     check-requires
-    enum-told-2
+    (λ c. search needs)
     enum-told-3
     returns-2
     returns-3)

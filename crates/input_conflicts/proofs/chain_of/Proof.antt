@@ -4,16 +4,11 @@ use native.Mathlib.Omega.{arith}
 use mathlib.Core.Path.{refl, sym, _∙_}
 use lib.ListN.{getD}
 use Rattle.input_conflicts.specs.Known.{Walked}
-use Rattle.input_conflicts.specs.KnownLaws.{known-below, like-ends, like-chained, like-known, walked-chained, walked-known}
+use Rattle.input_conflicts.specs.KnownLaws.{known-below, like-ends, like-chained, like-known, walked-chained}
+use Rattle.input_conflicts.specs.KnownLaws.{walked-known}
 use borrow.Author.Needs.{needs}
 use Rattle.input_conflicts.proofs.chain_of.Statement.{statement}
 use Rattle.input_conflicts.proofs.chain_of.Tie as tie
-
-add-h : tie.Need-add-h
-add-h c = omega arith
-
-shared-slice-read-h : tie.Need-shared-slice-read-h
-shared-slice-read-h c = omega arith
 
 -- the head is a byte
 abbrev top : tie.After-shared-slice-known2 → ℕ
@@ -74,9 +69,6 @@ returns c =
       ),
     )
 
-cast-firsts : tie.Need-cast-firsts
-cast-firsts c = search needs
-
 element-write-firsts : tie.Need-element-write-firsts
 element-write-firsts c = below (c .before .before)
 
@@ -105,14 +97,14 @@ pub chain-of-spec : {M : Type 1} → statement M
 chain-of-spec =
     tie.close
     (tie.spec
-    add-h
-    shared-slice-read-h
+    (λ c. omega arith)
+    (λ c. omega arith)
     cast-h
     element-copy-out-b
     cast-b
     mark-like-requires
     returns
-    cast-firsts
+    (λ c. search needs)
     element-write-firsts
     walk-requires
     returns-2)

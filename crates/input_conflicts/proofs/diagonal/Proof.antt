@@ -17,24 +17,6 @@ loop-holds : tie.Need-loop-holds Inv-loop μ-loop
 unfolding diagonal
 loop-holds c = (omega arith, refl)
 
-mul-rows : tie.Need-mul-rows Inv-loop μ-loop
-mul-rows c = omega arith
-
-mul-rows-2 : tie.Need-mul-rows-2 Inv-loop μ-loop
-mul-rows-2 c = omega arith
-
-index-1-rows : tie.Need-index-1-rows Inv-loop μ-loop
-index-1-rows c = omega arith
-
-index-2-rows : tie.Need-index-2-rows Inv-loop μ-loop
-index-2-rows c = omega arith
-
-add-i : tie.Need-add-i Inv-loop μ-loop
-add-i c = omega arith
-
-loop-less : tie.Need-loop-less Inv-loop μ-loop
-loop-less c = omega arith
-
 loop-again : tie.Need-loop-again Inv-loop μ-loop
 loop-again c =
     let x = c .before .before in
@@ -50,11 +32,11 @@ diagonal-spec =
     Inv-loop
     μ-loop
     loop-holds
-    mul-rows
-    mul-rows-2
-    index-1-rows
-    index-2-rows
-    add-i
-    loop-less
+    (λ c. omega arith)
+    (λ c. omega arith)
+    (λ c. omega arith)
+    (λ c. omega arith)
+    (λ c. omega arith)
+    (λ c. omega arith)
     loop-again
     returns)

@@ -22,12 +22,6 @@ Inv-loop c rows₀ own₀ firsts₀ n a₀ rows own firsts a =
 abbrev μ-loop : tie.MeasureT-loop
 μ-loop c rows₀ own₀ firsts₀ n a₀ rows own firsts a = commands c + 1 - a
 
-shared-slice-read-n : tie.Need-shared-slice-read-n Inv-loop μ-loop
-shared-slice-read-n c = omega arith
-
-cast-n : tie.Need-cast-n Inv-loop μ-loop
-cast-n c = omega arith
-
 loop-holds : tie.Need-loop-holds Inv-loop μ-loop
 loop-holds c =
     let x = c .before .before in
@@ -43,12 +37,6 @@ chain-of-requires c κs =
     let g = c .before .before .before .before .loop in
     (x .pre .0, (g .inv .1, (g .inv .2, (omega arith, omega arith))))
 
-add-refused : tie.Need-add-refused Inv-loop μ-loop
-add-refused c = omega arith
-
-refused-requires : tie.Need-refused-requires Inv-loop μ-loop
-refused-requires c κs = omega arith
-
 returns : tie.Need-returns Inv-loop μ-loop
 returns c =
     let cat = c .before .before .before .before .before .before .before .before .before .before .args .c .now in
@@ -57,12 +45,6 @@ returns c =
     let hit = search-hit (endless cat) (g .inv .0) (omega arith) stuck in
     let line = ap (lineAt 5 0 headPlace) hit in
     (decides cat (c .refused .result) line (c .refused .ensures), λ e. absurd (some-none (sym line ∙ e)))
-
-add-a : tie.Need-add-a Inv-loop μ-loop
-add-a c = omega arith
-
-loop-less : tie.Need-loop-less Inv-loop μ-loop
-loop-less c = omega arith
 
 loop-again : tie.Need-loop-again Inv-loop μ-loop
 loop-again c =
@@ -87,14 +69,14 @@ each-chain-spec =
     (tie.spec
     Inv-loop
     μ-loop
-    shared-slice-read-n
-    cast-n
+    (λ c. omega arith)
+    (λ c. omega arith)
     loop-holds
     chain-of-requires
-    add-refused
-    refused-requires
+    (λ c. omega arith)
+    (λ c κs. omega arith)
     returns
-    add-a
-    loop-less
+    (λ c. omega arith)
+    (λ c. omega arith)
     loop-again
     returns-2)

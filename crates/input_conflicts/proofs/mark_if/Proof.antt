@@ -6,16 +6,10 @@ use borrow.Author.Needs.{needs}
 use Rattle.input_conflicts.proofs.mark_if.Statement.{statement}
 use Rattle.input_conflicts.proofs.mark_if.Tie as tie
 
-mark-requires : tie.Need-mark-requires
-mark-requires c κs = search needs
-
 returns : tie.Need-returns
 returns c =
     let s = c .before .before .before in
     c .mark .ensures ∙ marked-if (s .args .flag) (s .args .rows .now) (s .args .a) (s .args .b) (omega arith)
 
-returns-2 : tie.Need-returns-2
-returns-2 c = search needs
-
 pub mark-if-spec : {M : Type 1} → statement M
-mark-if-spec = tie.close (tie.spec mark-requires returns returns-2)
+mark-if-spec = tie.close (tie.spec (λ c κs. search needs) returns (λ c. search needs))

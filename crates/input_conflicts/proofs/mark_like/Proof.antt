@@ -20,35 +20,11 @@ loop-holds c =
     liking-start (s .args .a) ha (getD (s .args .own .now) (s .args .b - 1) [])
     (s .pre .0 .wide (s .args .b - 1) (omega arith)) (s .args .rows .now) (s .pre .1 .0)
 
-sub-mark-if : tie.Need-sub-mark-if Inv-loop μ-loop
-sub-mark-if c = omega arith
-
-mul-mark-if : tie.Need-mul-mark-if Inv-loop μ-loop
-mul-mark-if c = omega arith
-
-mul-mark-if-2 : tie.Need-mul-mark-if-2 Inv-loop μ-loop
-mul-mark-if-2 c = omega arith
-
-index-1-mark-if : tie.Need-index-1-mark-if Inv-loop μ-loop
-index-1-mark-if c = omega arith
-
-index-2-mark-if : tie.Need-index-2-mark-if Inv-loop μ-loop
-index-2-mark-if c = omega arith
-
-add-mark-if : tie.Need-add-mark-if Inv-loop μ-loop
-add-mark-if c = omega arith
-
 mark-if-requires : tie.Need-mark-if-requires Inv-loop μ-loop
 mark-if-requires c κs =
     let g = c .before .before .before .loop in
     let s = c .before .before .before .before in
     (g .inv .shape, (s .pre .1 .1 .0 .0, (s .pre .1 .1 .0 .1, (omega arith, omega arith))))
-
-add-j : tie.Need-add-j Inv-loop μ-loop
-add-j c = omega arith
-
-loop-less : tie.Need-loop-less Inv-loop μ-loop
-loop-less c = omega arith
 
 loop-again : tie.Need-loop-again Inv-loop μ-loop
 loop-again c =
@@ -72,14 +48,14 @@ mark-like-spec =
     Inv-loop
     μ-loop
     loop-holds
-    sub-mark-if
-    mul-mark-if
-    mul-mark-if-2
-    index-1-mark-if
-    index-2-mark-if
-    add-mark-if
+    (λ c. omega arith)
+    (λ c. omega arith)
+    (λ c. omega arith)
+    (λ c. omega arith)
+    (λ c. omega arith)
+    (λ c. omega arith)
     mark-if-requires
-    add-j
-    loop-less
+    (λ c. omega arith)
+    (λ c. omega arith)
     loop-again
     returns)

@@ -16,40 +16,10 @@ Inv-loop c rows n a₀ a = Searching (λ a. stands a (chain c a)) (commands c) 1
 abbrev μ-loop : tie.MeasureT-loop
 μ-loop c rows n a₀ a = commands c + 1 - a
 
-shared-slice-read-n : tie.Need-shared-slice-read-n Inv-loop μ-loop
-shared-slice-read-n c = omega arith
-
-cast-n : tie.Need-cast-n Inv-loop μ-loop
-cast-n c = omega arith
-
 loop-holds : tie.Need-loop-holds Inv-loop μ-loop
 loop-holds c =
     let cat = c .before .before .args .c .now in
     search-start (λ a. stands a (chain cat a)) (commands cat) 1
-
-sub-if1 : tie.Need-sub-if1 Inv-loop μ-loop
-sub-if1 c = omega arith
-
-sub-if1-2 : tie.Need-sub-if1-2 Inv-loop μ-loop
-sub-if1-2 c = omega arith
-
-mul-if1 : tie.Need-mul-if1 Inv-loop μ-loop
-mul-if1 c = omega arith
-
-mul-if1-2 : tie.Need-mul-if1-2 Inv-loop μ-loop
-mul-if1-2 c = omega arith
-
-index-1-if1 : tie.Need-index-1-if1 Inv-loop μ-loop
-index-1-if1 c = omega arith
-
-index-2-if1 : tie.Need-index-2-if1 Inv-loop μ-loop
-index-2-if1 c = omega arith
-
-add-refused : tie.Need-add-refused Inv-loop μ-loop
-add-refused c = omega arith
-
-refused-requires : tie.Need-refused-requires Inv-loop μ-loop
-refused-requires c κs = omega arith
 
 returns : tie.Need-returns Inv-loop μ-loop
 returns c =
@@ -59,12 +29,6 @@ returns c =
     let t = met-own cat (x .pre .1) (g .a) (omega arith) (omega arith) (c .before .if1 .taken) in
     let hit = search-hit (λ a. stands a (chain cat a)) (g .inv) (omega arith) t in
     decides cat (c .refused .result) (ap (lineAt 6 0 headPlace) hit) (c .refused .ensures)
-
-add-a : tie.Need-add-a Inv-loop μ-loop
-add-a c = omega arith
-
-loop-less : tie.Need-loop-less Inv-loop μ-loop
-loop-less c = omega arith
 
 loop-again : tie.Need-loop-again Inv-loop μ-loop
 loop-again c =
@@ -86,19 +50,19 @@ own-chain-spec =
     (tie.spec
     Inv-loop
     μ-loop
-    shared-slice-read-n
-    cast-n
+    (λ c. omega arith)
+    (λ c. omega arith)
     loop-holds
-    sub-if1
-    sub-if1-2
-    mul-if1
-    mul-if1-2
-    index-1-if1
-    index-2-if1
-    add-refused
-    refused-requires
+    (λ c. omega arith)
+    (λ c. omega arith)
+    (λ c. omega arith)
+    (λ c. omega arith)
+    (λ c. omega arith)
+    (λ c. omega arith)
+    (λ c. omega arith)
+    (λ c κs. omega arith)
     returns
-    add-a
-    loop-less
+    (λ c. omega arith)
+    (λ c. omega arith)
     loop-again
     returns-2)

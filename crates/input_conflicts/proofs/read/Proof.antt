@@ -26,15 +26,6 @@ endless-line c =
     let r = c .before .before .each-chain in
     passed-none cat (endlessLine cat) (r .result) (r .ensures .0) (c .enum-told3 .given .1)
 
-check-requires : tie.Need-check-requires
-check-requires c κs = search needs
-
-enum-told : tie.Need-enum-told
-enum-told c = search needs
-
-enum-told-2 : tie.Need-enum-told-2
-enum-told-2 c = search needs
-
 returns : tie.Need-returns
 returns c =
     let cat = c .before .before .before .before .args .catalogue .now in
@@ -42,12 +33,6 @@ returns c =
     let last = orIf (endlessLine cat) (ownLine cat) in
     let d = then-refused cat (soundLine cat) last (r .result) (r .ensures) (c .enum-told2 .given .1) in
     answers-refused cat (r .result) d (c .enum-told2 .given .1)
-
-blank-requires : tie.Need-blank-requires
-blank-requires c κs = search needs
-
-none-known-requires : tie.Need-none-known-requires
-none-known-requires c κs = search needs
 
 each-chain-requires : tie.Need-each-chain-requires
 each-chain-requires c κs =
@@ -59,12 +44,6 @@ each-chain-requires c κs =
         (b .blank .ensures, c .before .before .before .none-known .ensures),
       ),
     )
-
-enum-told-3 : tie.Need-enum-told-3
-enum-told-3 c = search needs
-
-enum-told-4 : tie.Need-enum-told-4
-enum-told-4 c = search needs
 
 returns-2 : tie.Need-returns-2
 returns-2 c =
@@ -83,12 +62,6 @@ own-chain-requires c κs =
       sound-none (x .before .before .before .before .args .catalogue .now) (sound-line x) .framed,
       y .before .before .each-chain .ensures .1 (endless-line y),
     )
-
-enum-known-owned : tie.Need-enum-known-owned
-enum-known-owned c = search needs
-
-enum-told-5 : tie.Need-enum-told-5
-enum-told-5 c = search needs
 
 returns-3 : tie.Need-returns-3
 returns-3 c =
@@ -123,19 +96,19 @@ pub read-spec : {M : Type 1} → statement M
 read-spec =
     tie.close
     (tie.spec
-    check-requires
-    enum-told
-    enum-told-2
+    (λ c κs. search needs)
+    (λ c. search needs)
+    (λ c. search needs)
     returns
-    blank-requires
-    none-known-requires
+    (λ c κs. search needs)
+    (λ c κs. search needs)
     each-chain-requires
-    enum-told-3
-    enum-told-4
+    (λ c. search needs)
+    (λ c. search needs)
     returns-2
     own-chain-requires
-    enum-known-owned
-    enum-told-5
+    (λ c. search needs)
+    (λ c. search needs)
     returns-3
     diagonal-requires
     returns-4)

@@ -15,21 +15,6 @@ Inv-loop c a rows₀ own₀ n left₀ at₀ rows own left at = Walking c a rows�
 abbrev μ-loop : tie.MeasureT-loop
 μ-loop c a rows₀ own₀ n left₀ at₀ rows own left at = left
 
-shared-slice-read-n : tie.Need-shared-slice-read-n Inv-loop μ-loop
-shared-slice-read-n c = omega arith
-
-cast-n : tie.Need-cast-n Inv-loop μ-loop
-cast-n c = omega arith
-
-shared-slice-read-left : tie.Need-shared-slice-read-left Inv-loop μ-loop
-shared-slice-read-left c = omega arith
-
-add-at : tie.Need-add-at Inv-loop μ-loop
-add-at c = omega arith
-
-shared-slice-read-at : tie.Need-shared-slice-read-at Inv-loop μ-loop
-shared-slice-read-at c = omega arith
-
 cast-at : tie.Need-cast-at Inv-loop μ-loop
 cast-at c = omega (arith, c .shared-slice-known4 .given (1 + c .before .before .before .before .args .a))
 
@@ -51,15 +36,6 @@ returns c =
     let w = walk-ended (x .args .c .now) (h .0) (x .args .a) la ha (i .0) (c .if1 .taken) in
     (w .0, (w .1, note-ended (x .args .c .now) (h .0) (x .args .a) la ha (i .1) (inl (c .if1 .taken))))
 
-mul-meet : tie.Need-mul-meet Inv-loop μ-loop
-mul-meet c = omega arith
-
-add-meet : tie.Need-add-meet Inv-loop μ-loop
-add-meet c = omega arith
-
-shared-slice-read-meet : tie.Need-shared-slice-read-meet Inv-loop μ-loop
-shared-slice-read-meet c = omega arith
-
 cast-meet : tie.Need-cast-meet Inv-loop μ-loop
 cast-meet c =
     let x = c .before .before .before .before .before .before .before .before .args in
@@ -72,29 +48,11 @@ meet-requires c κs =
     let f = command-fit (x .args .c .now) (x .pre .0) (w .at) (omega arith) (w .inv .0 .within) in
     (w .inv .0 .shape, (w .inv .1 .shape, ((x .pre .1 .1 .1 .0, omega (arith, x .pre .0 .framed .few)), f)))
 
-mul-at : tie.Need-mul-at Inv-loop μ-loop
-mul-at c = omega arith
-
-add-at-2 : tie.Need-add-at-2 Inv-loop μ-loop
-add-at-2 c = omega arith
-
-add-at-3 : tie.Need-add-at-3 Inv-loop μ-loop
-add-at-3 c = omega arith
-
-shared-slice-read-at-2 : tie.Need-shared-slice-read-at-2 Inv-loop μ-loop
-shared-slice-read-at-2 c = omega arith
-
 cast-at-2 : tie.Need-cast-at-2 Inv-loop μ-loop
 cast-at-2 c =
     let x = c .before .before .before .before .before .before .before .before .before .before .before .before .args in
     let at = c .before .before .before .before .before .before .before .loop .at in
     omega (arith, c .shared-slice-known6 .given (commands (x .c .now) + 2 * at + 1))
-
-sub-left : tie.Need-sub-left Inv-loop μ-loop
-sub-left c = omega arith
-
-loop-less : tie.Need-loop-less Inv-loop μ-loop
-loop-less c = omega arith
 
 loop-again : tie.Need-loop-again Inv-loop μ-loop
 loop-again c =
@@ -123,25 +81,25 @@ walk-spec =
     (tie.spec
     Inv-loop
     μ-loop
-    shared-slice-read-n
-    cast-n
-    shared-slice-read-left
-    add-at
-    shared-slice-read-at
+    (λ c. omega arith)
+    (λ c. omega arith)
+    (λ c. omega arith)
+    (λ c. omega arith)
+    (λ c. omega arith)
     cast-at
     loop-holds
     returns
-    mul-meet
-    add-meet
-    shared-slice-read-meet
+    (λ c. omega arith)
+    (λ c. omega arith)
+    (λ c. omega arith)
     cast-meet
     meet-requires
-    mul-at
-    add-at-2
-    add-at-3
-    shared-slice-read-at-2
+    (λ c. omega arith)
+    (λ c. omega arith)
+    (λ c. omega arith)
+    (λ c. omega arith)
     cast-at-2
-    sub-left
-    loop-less
+    (λ c. omega arith)
+    (λ c. omega arith)
     loop-again
     returns-2)

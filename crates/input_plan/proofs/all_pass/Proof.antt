@@ -15,17 +15,8 @@ abbrev μ-loop : tie.MeasureT-loop
 loop-holds : tie.Need-loop-holds Inv-loop μ-loop
 loop-holds c = (omega arith, gathered-start _ _)
 
-shared-slice-read-fault : tie.Need-shared-slice-read-fault Inv-loop μ-loop
-shared-slice-read-fault c = omega arith
-
 fault-requires : tie.Need-fault-requires Inv-loop μ-loop
 fault-requires c κs = c .before .before .before .before .pre
-
-add-j : tie.Need-add-j Inv-loop μ-loop
-add-j c = omega arith
-
-loop-less : tie.Need-loop-less Inv-loop μ-loop
-loop-less c = omega arith
 
 loop-again : tie.Need-loop-again Inv-loop μ-loop
 loop-again c =
@@ -42,9 +33,9 @@ all-pass-spec =
     Inv-loop
     μ-loop
     loop-holds
-    shared-slice-read-fault
+    (λ c. omega arith)
     fault-requires
-    add-j
-    loop-less
+    (λ c. omega arith)
+    (λ c. omega arith)
     loop-again
     returns)

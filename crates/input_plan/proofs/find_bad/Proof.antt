@@ -1,5 +1,5 @@
--- `input_plan::find_bad` meets its contract. The loop's invariant: a search from place 0 has come to i. The measure is what
--- is left of the plan. Assumes nothing.
+-- `input_plan::find_bad` meets its contract. The loop's invariant: a search from place 0 has come to i. The measure is
+-- what is left of the plan. Assumes nothing.
 use Prim.Native.Nat.{_-_}
 use mathlib.Core.Path.{sym, ap, _∙_}
 use mathlib.Core.Bool.{not}
@@ -19,22 +19,10 @@ abbrev μ-loop : tie.MeasureT-loop
 loop-holds : tie.Need-loop-holds Inv-loop μ-loop
 loop-holds c = search-start _ _ 0
 
-shared-slice-read-passing : tie.Need-shared-slice-read-passing Inv-loop μ-loop
-shared-slice-read-passing c = omega arith
-
-passing-requires : tie.Need-passing-requires Inv-loop μ-loop
-passing-requires c κs = tt
-
 returns : tie.Need-returns Inv-loop μ-loop
 returns c =
     let t = ap not (sym (c .before .passing .ensures)) ∙ c .if1 .taken in
     sym (search-hit _ (c .before .before .before .before .loop .inv) (omega arith) t)
-
-add-i : tie.Need-add-i Inv-loop μ-loop
-add-i c = omega arith
-
-loop-less : tie.Need-loop-less Inv-loop μ-loop
-loop-less c = omega arith
 
 loop-again : tie.Need-loop-again Inv-loop μ-loop
 loop-again c =
@@ -51,10 +39,10 @@ find-bad-spec =
     Inv-loop
     μ-loop
     loop-holds
-    shared-slice-read-passing
-    passing-requires
+    (λ c. omega arith)
+    (λ c κs. tt)
     returns
-    add-i
-    loop-less
+    (λ c. omega arith)
+    (λ c. omega arith)
     loop-again
     returns-2)

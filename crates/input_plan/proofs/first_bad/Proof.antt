@@ -5,23 +5,14 @@ use Rattle.spec_laws.specs.PlanLaws.{passing-bad}
 use Rattle.input_plan.proofs.first_bad.Statement.{statement}
 use Rattle.input_plan.proofs.first_bad.Tie as tie
 
-cast-all-pass : tie.Need-cast-all-pass
-cast-all-pass c = omega arith
-
-all-pass-requires : tie.Need-all-pass-requires
-all-pass-requires c κs = omega arith
-
 returns : tie.Need-returns
 returns c =
     let a = c .before .before .before .before .args in
     sym (passing-bad (a .commands) (a .plan .now) (c .before .all-pass .ensures .0 (c .if2 .taken)))
-
-find-bad-requires : tie.Need-find-bad-requires
-find-bad-requires c κs = tt
 
 returns-2 : tie.Need-returns-2
 returns-2 c = c .find-bad .ensures
 
 pub first-bad-spec : {M : Type 1} → statement M
 first-bad-spec =
-    tie.close (tie.spec cast-all-pass all-pass-requires returns find-bad-requires returns-2)
+    tie.close (tie.spec (λ c. omega arith) (λ c κs. omega arith) returns (λ c κs. tt) returns-2)

@@ -1,5 +1,5 @@
--- `input_plan::passing` meets its contract: a byte up to N passes, one above N and up to 128 does not, and of the others
--- those up to 128 + N do. Assumes nothing.
+-- `input_plan::passing` meets its contract: a byte up to N passes, one above N and up to 128 does not, and of the
+-- others those up to 128 + N do. Assumes nothing.
 use mathlib.Core.Path.{sym}
 use native.Mathlib.Omega.{arith}
 use borrow.Author.Needs.{needs}
@@ -13,11 +13,8 @@ returns c = sym (passes-low _ _ (omega arith))
 returns-2 : tie.Need-returns-2
 returns-2 c = sym (passes-mid _ _ (omega arith) (omega arith))
 
-sub-result : tie.Need-sub-result
-sub-result c = search needs
-
 returns-3 : tie.Need-returns-3
 returns-3 c = sym (passes-high _ _ (omega arith) (omega arith))
 
 pub passing-spec : {M : Type 1} → statement M
-passing-spec = tie.close (tie.spec returns returns-2 sub-result returns-3)
+passing-spec = tie.close (tie.spec returns returns-2 (λ c. search needs) returns-3)

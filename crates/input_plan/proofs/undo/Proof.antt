@@ -9,9 +9,6 @@ use Rattle.input_plan.proofs.undo.Tie as tie
 returns : tie.Need-returns
 returns c = sym (undone-zero _ (omega arith))
 
-add-result : tie.Need-add-result
-add-result c = search needs
-
 returns-2 : tie.Need-returns-2
 returns-2 c = sym (undone-does _ (omega arith) (omega arith))
 
@@ -22,4 +19,4 @@ returns-4 : tie.Need-returns-4
 returns-4 c = sym (undone-undoes _ (omega arith) (omega arith))
 
 pub undo-spec : {M : Type 1} → statement M
-undo-spec = tie.close (tie.spec returns add-result returns-2 returns-3 returns-4)
+undo-spec = tie.close (tie.spec returns (λ c. search needs) returns-2 returns-3 returns-4)

@@ -23,15 +23,6 @@ read-off-requires c κs =
     let (k, g, m) = start (d .before) .pre in
     (k, _, form-readable (m .fits) (d .reduce .ensures k (reducing-start g (m .unders) (m .links))))
 
-same-length : tie.Need-same-length
-same-length c = search needs
-
-same-length-2 : tie.Need-same-length-2
-same-length-2 c = search needs
-
-same-length-3 : tie.Need-same-length-3
-same-length-3 c = search needs
-
 returns : tie.Need-returns
 returns c =
     let d = reduced (c .before .before .before) in
@@ -42,4 +33,4 @@ returns c =
 pub normal-form-spec : {M : Type 1} → statement M
 normal-form-spec =
     tie.close
-    (tie.spec reduce-requires read-off-requires same-length same-length-2 same-length-3 returns)
+    (tie.spec reduce-requires read-off-requires (λ c. search needs) (λ c. search needs) (λ c. search needs) returns)

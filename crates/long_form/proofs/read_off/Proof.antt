@@ -16,17 +16,8 @@ Inv-loop word conflicts under link tops₀ blanks₀ area₀ l₀ k₀ tops blan
 abbrev μ-loop : tie.MeasureT-loop
 μ-loop word conflicts under link tops₀ blanks₀ area₀ l₀ k₀ tops blanks area l k = length area₀ - l
 
-ready-requires : tie.Need-ready-requires Inv-loop μ-loop
-ready-requires c κs = search needs
-
 loop-holds : tie.Need-loop-holds Inv-loop μ-loop
 loop-holds c = underway-start (c .before .before .before .before .before .before .pre) (c .ready .ensures)
-
-mul-area : tie.Need-mul-area Inv-loop μ-loop
-mul-area c = omega arith
-
-element-copy-out-area : tie.Need-element-copy-out-area Inv-loop μ-loop
-element-copy-out-area c = omega arith
 
 cast-area : tie.Need-cast-area Inv-loop μ-loop
 cast-area c = omega (arith, underway-cuttable (c .before .before .loop .inv) (omega arith) .low)
@@ -43,19 +34,10 @@ slice-write-area c = underway-fits (c .before .before .before .loop .inv) (omega
 add-l : tie.Need-add-l Inv-loop μ-loop
 add-l c = omega (arith, underway-fits (c .before .before .before .loop .inv) (omega arith))
 
-mul-line : tie.Need-mul-line Inv-loop μ-loop
-mul-line c = omega arith
-
-element-copy-out-line : tie.Need-element-copy-out-line Inv-loop μ-loop
-element-copy-out-line c = omega arith
-
 cut-requires : tie.Need-cut-requires Inv-loop μ-loop
 cut-requires c κs =
     let l = c .before .before .before .before .before .before .before in
     underway-cuttable (l .loop .inv) (omega arith)
-
-ready-requires-2 : tie.Need-ready-requires-2 Inv-loop μ-loop
-ready-requires-2 c κs = search needs
 
 loop-less : tie.Need-loop-less Inv-loop μ-loop
 loop-less c =
@@ -79,19 +61,19 @@ read-off-spec =
     (tie.spec
     Inv-loop
     μ-loop
-    ready-requires
+    (λ c κs. search needs)
     loop-holds
-    mul-area
-    element-copy-out-area
+    (λ c. omega arith)
+    (λ c. omega arith)
     cast-area
     sub-area
     shared-slice-read-area
     slice-write-area
     add-l
-    mul-line
-    element-copy-out-line
+    (λ c. omega arith)
+    (λ c. omega arith)
     cut-requires
-    ready-requires-2
+    (λ c κs. search needs)
     loop-less
     loop-again
     same-length

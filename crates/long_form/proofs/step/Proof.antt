@@ -28,30 +28,18 @@ shared-slice-read-a c =
 returns : tie.Need-returns
 returns c = λ k r. reducing-filler (c .before .before .before .before .before .args .p) r (c .if1 .taken)
 
-cast-k : tie.Need-cast-k
-cast-k c = search needs
-
 sub-k : tie.Need-sub-k
 sub-k c =
     let s = start c in
     reducing-lettered (s .args .p) (s .pre .1) refl refl (c .if1 .left) .0
-
-mul-line : tie.Need-mul-line
-mul-line c = search needs
 
 element-copy-out-line : tie.Need-element-copy-out-line
 element-copy-out-line c =
     let s = start c in
     reducing-lined (s .args .p) (s .pre .1) refl refl (c .if1 .left) .within
 
-mul-if2 : tie.Need-mul-if2
-mul-if2 c = search needs
-
 element-copy-out-if2 : tie.Need-element-copy-out-if2
 element-copy-out-if2 c = element-copy-out-line (c .before)
-
-mul-if3 : tie.Need-mul-if3
-mul-if3 c = search needs
 
 element-copy-out-if3 : tie.Need-element-copy-out-if3
 element-copy-out-if3 c = element-copy-out-line (letter c)
@@ -77,21 +65,12 @@ shared-slice-read-if3 c =
     let s = start l in
     reducing-inside (s .args .p) (s .pre .1) refl refl (l .if1 .left) (t .if2 .taken)
 
-undo-requires : tie.Need-undo-requires
-undo-requires c κs = search needs
-
 cut-requires : tie.Need-cut-requires
 cut-requires c κs =
     let t = bare (c .before .before .before .before .before) in
     let l = letter t in
     let s = start l in
     reducing-cuttable (s .args .p) (s .pre .1) refl refl (l .if1 .left) (t .if2 .taken)
-
-same-length : tie.Need-same-length
-same-length c = search needs
-
-same-length-2 : tie.Need-same-length-2
-same-length-2 c = search needs
 
 returns-2 : tie.Need-returns-2
 returns-2 c =
@@ -106,12 +85,6 @@ put-requires c κs =
     let l = c .before .before .before .before .before .before .before .before in
     let s = start l in
     reducing-puttable (s .args .p) (s .pre .1) refl refl (l .if1 .left)
-
-same-length-3 : tie.Need-same-length-3
-same-length-3 c = search needs
-
-same-length-4 : tie.Need-same-length-4
-same-length-4 c = search needs
 
 returns-3 : tie.Need-returns-3
 returns-3 c =
@@ -128,23 +101,23 @@ step-spec =
     (tie.spec
     shared-slice-read-a
     returns
-    cast-k
+    (λ c. search needs)
     sub-k
-    mul-line
+    (λ c. search needs)
     element-copy-out-line
-    mul-if2
+    (λ c. search needs)
     element-copy-out-if2
-    mul-if3
+    (λ c. search needs)
     element-copy-out-if3
     cast-if3
     sub-if3
     shared-slice-read-if3
-    undo-requires
+    (λ c κs. search needs)
     cut-requires
-    same-length
-    same-length-2
+    (λ c. search needs)
+    (λ c. search needs)
     returns-2
     put-requires
-    same-length-3
-    same-length-4
+    (λ c. search needs)
+    (λ c. search needs)
     returns-3)

@@ -7,18 +7,6 @@ use borrow.Author.Needs.{needs}
 use Rattle.loops.proofs.answer.Statement.{statement}
 use Rattle.loops.proofs.answer.Tie as tie
 
-framed-requires : tie.Need-framed-requires
-framed-requires c κs = search needs
-
-enum-told : tie.Need-enum-told
-enum-told c = search needs
-
-badly-framed-requires : tie.Need-badly-framed-requires
-badly-framed-requires c κs = search needs
-
-enum-known-places : tie.Need-enum-known-places
-enum-known-places c = search needs
-
 slice-aggregate-decide : tie.Need-slice-aggregate-decide
 slice-aggregate-decide c =
     let known = c .before in
@@ -82,9 +70,6 @@ part-decide-end-2 c =
     let l = well-laid s (known .before .before .before .framed .ensures) (known .before .places .given .1) in
     omega (arith, l .first, l .second, l .end)
 
-decide-requires : tie.Need-decide-requires
-decide-requires c κs = search needs
-
 returns : tie.Need-returns
 returns c =
     let called = c .before .before .before in
@@ -102,10 +87,10 @@ pub answer-spec : {M : Type 1} → statement M
 answer-spec =
     tie.close
     (tie.spec
-    framed-requires
-    enum-told
-    badly-framed-requires
-    enum-known-places
+    (λ c κs. search needs)
+    (λ c. search needs)
+    (λ c κs. search needs)
+    (λ c. search needs)
     slice-aggregate-decide
     add-decide
     sub-decide
@@ -115,6 +100,6 @@ answer-spec =
     sub-decide-2
     part-decide-start-2
     part-decide-end-2
-    decide-requires
+    (λ c κs. search needs)
     returns
     returns-2)

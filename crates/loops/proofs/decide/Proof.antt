@@ -5,27 +5,6 @@ use borrow.Author.Needs.{needs}
 use Rattle.loops.proofs.decide.Statement.{statement}
 use Rattle.loops.proofs.decide.Tie as tie
 
-lead-in-area-requires : tie.Need-lead-in-area-requires
-lead-in-area-requires c κs = search needs
-
-slice-aggregate-loops : tie.Need-slice-aggregate-loops
-slice-aggregate-loops c = search needs
-
-loops-requires : tie.Need-loops-requires
-loops-requires c κs = search needs
-
-enum-told : tie.Need-enum-told
-enum-told c = search needs
-
-joined-requires : tie.Need-joined-requires
-joined-requires c κs = search needs
-
-enum-told-2 : tie.Need-enum-told-2
-enum-told-2 c = search needs
-
-enum-known-refusal : tie.Need-enum-known-refusal
-enum-known-refusal c = search needs
-
 returns : tie.Need-returns
 returns c =
     let called = c .before .before .before .before in
@@ -55,13 +34,13 @@ pub decide-spec : {M : Type 1} → statement M
 decide-spec =
     tie.close
     (tie.spec
-    lead-in-area-requires
-    slice-aggregate-loops
-    loops-requires
-    enum-told
-    joined-requires
-    enum-told-2
-    enum-known-refusal
+    (λ c κs. search needs)
+    (λ c. search needs)
+    (λ c κs. search needs)
+    (λ c. search needs)
+    (λ c κs. search needs)
+    (λ c. search needs)
+    (λ c. search needs)
     returns
     returns-2
     returns-3)

@@ -4,21 +4,6 @@ use borrow.Author.Needs.{needs}
 use Rattle.loops.proofs.joined.Statement.{statement}
 use Rattle.loops.proofs.joined.Tie as tie
 
-core-area-requires : tie.Need-core-area-requires
-core-area-requires c κs = search needs
-
-slice-aggregate-core : tie.Need-slice-aggregate-core
-slice-aggregate-core c = search needs
-
-core-requires : tie.Need-core-requires
-core-requires c κs = search needs
-
-enum-known-letters : tie.Need-enum-known-letters
-enum-known-letters c = search needs
-
-enum-known-refusal : tie.Need-enum-known-refusal
-enum-known-refusal c = search needs
-
 returns : tie.Need-returns
 returns c =
     let called = c .before .before .before .before in
@@ -41,10 +26,10 @@ pub joined-spec : {M : Type 1} → statement M
 joined-spec =
     tie.close
     (tie.spec
-    core-area-requires
-    slice-aggregate-core
-    core-requires
-    enum-known-letters
-    enum-known-refusal
+    (λ c κs. search needs)
+    (λ c. search needs)
+    (λ c κs. search needs)
+    (λ c. search needs)
+    (λ c. search needs)
     returns
     returns-2)

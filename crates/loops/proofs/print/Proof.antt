@@ -6,15 +6,6 @@ use borrow.Author.Needs.{needs}
 use Rattle.loops.proofs.print.Statement.{statement}
 use Rattle.loops.proofs.print.Tie as tie
 
-answer-requires : tie.Need-answer-requires
-answer-requires c κs = search needs
-
-put-requires : tie.Need-put-requires
-put-requires c κs = search needs
-
-same-length : tie.Need-same-length
-same-length c = search needs
-
 returns : tie.Need-returns
 returns c =
     let put = c .before .before .put in
@@ -22,4 +13,4 @@ returns c =
     (subst (λ a. Printed a (take (put .result) (put .last .0))) (answer .ensures) (put .ensures .0), put .ensures .1)
 
 pub print-spec : {M : Type 1} → statement M
-print-spec = tie.close (tie.spec answer-requires put-requires same-length returns)
+print-spec = tie.close (tie.spec (λ c κs. search needs) (λ c κs. search needs) (λ c. search needs) returns)

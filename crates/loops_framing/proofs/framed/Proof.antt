@@ -9,27 +9,6 @@ use Rattle.loops_framing.proofs.framed.Tie as tie
 returns : tie.Need-returns
 returns c = long-badly (c .before .before .args .s .now) (c .if1 .taken)
 
-byte-at-requires : tie.Need-byte-at-requires
-byte-at-requires c κs = search needs
-
-add-first : tie.Need-add-first
-add-first c = search needs
-
-byte-at-requires-2 : tie.Need-byte-at-requires-2
-byte-at-requires-2 c κs = search needs
-
-mul-first : tie.Need-mul-first
-mul-first c = search needs
-
-add-first-2 : tie.Need-add-first-2
-add-first-2 c = search needs
-
-plan-end-requires : tie.Need-plan-end-requires
-plan-end-requires c κs = search needs
-
-plan-end-requires-2 : tie.Need-plan-end-requires-2
-plan-end-requires-2 c κs = search needs
-
 returns-2 : tie.Need-returns-2
 returns-2 c =
     other-badly (c .before .before .before .before .before .before .before .args .s .now)
@@ -53,12 +32,12 @@ framed-spec =
     tie.close
     (tie.spec
     returns
-    byte-at-requires
-    add-first
-    byte-at-requires-2
-    mul-first
-    add-first-2
-    plan-end-requires
-    plan-end-requires-2
+    (λ c κs. search needs)
+    (λ c. search needs)
+    (λ c κs. search needs)
+    (λ c. search needs)
+    (λ c. search needs)
+    (λ c κs. search needs)
+    (λ c κs. search needs)
     returns-2
     returns-3)

@@ -8,23 +8,11 @@ use borrow.Author.Needs.{needs}
 use Rattle.loops_listing.proofs.put_decimal.Statement.{statement}
 use Rattle.loops_listing.proofs.put_decimal.Tie as tie
 
-decimal-requires : tie.Need-decimal-requires
-decimal-requires c κs = search needs
-
-array-share-prefix-digits : tie.Need-array-share-prefix-digits
-array-share-prefix-digits c = search needs
-
-slice-aggregate-append : tie.Need-slice-aggregate-append
-slice-aggregate-append c = search needs
-
 append-requires : tie.Need-append-requires
 append-requires c κs =
     let d = c .before .before .decimal in
     let k : d .result ≤ 20 = decimal-short (c .before .before .before .before .before .fits .n) (d .ensures .1 .0) in
     omega (arith, d .ensures .0 .1)
-
-same-length : tie.Need-same-length
-same-length c = search needs
 
 returns : tie.Need-returns
 returns c =
@@ -41,9 +29,9 @@ pub put-decimal-spec : {M : Type 1} → statement M
 put-decimal-spec =
     tie.close
     (tie.spec
-    decimal-requires
-    array-share-prefix-digits
-    slice-aggregate-append
+    (λ c κs. search needs)
+    (λ c. search needs)
+    (λ c. search needs)
     append-requires
-    same-length
+    (λ c. search needs)
     returns)

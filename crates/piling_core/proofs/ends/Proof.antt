@@ -5,21 +5,6 @@ use Rattle.piling_core.specs.PairLaws.{ends-tell, ends-not}
 use Rattle.piling_core.proofs.ends.Statement.{statement}
 use Rattle.piling_core.proofs.ends.Tie as tie
 
-add-if1 : tie.Need-add-if1
-add-if1 c = omega arith
-
-element-copy-out-letter : tie.Need-element-copy-out-letter
-element-copy-out-letter c = omega arith
-
-sub-result : tie.Need-sub-result
-sub-result c = omega arith
-
-element-copy-out-result : tie.Need-element-copy-out-result
-element-copy-out-result c = omega arith
-
-undo-requires : tie.Need-undo-requires
-undo-requires c κs = search needs
-
 returns : tie.Need-returns
 returns c = ends-tell (omega arith) (omega arith) (c .undo .ensures)
 
@@ -33,11 +18,11 @@ pub ends-spec : {M : Type 1} → statement M
 ends-spec =
     tie.close
     (tie.spec
-    add-if1
-    element-copy-out-letter
-    sub-result
-    element-copy-out-result
-    undo-requires
+    (λ c. omega arith)
+    (λ c. omega arith)
+    (λ c. omega arith)
+    (λ c. omega arith)
+    (λ c κs. search needs)
     returns
     returns-2
     returns-3)

@@ -16,24 +16,6 @@ abbrev μ-loop : tie.MeasureT-loop
 loop-holds : tie.Need-loop-holds Inv-loop μ-loop
 loop-holds c = passed-start _ _ _
 
-mul-ends : tie.Need-mul-ends Inv-loop μ-loop
-mul-ends c = omega arith
-
-index-1-ends : tie.Need-index-1-ends Inv-loop μ-loop
-index-1-ends c = omega arith
-
-mul-ends-2 : tie.Need-mul-ends-2 Inv-loop μ-loop
-mul-ends-2 c = omega arith
-
-element-copy-out-ends : tie.Need-element-copy-out-ends Inv-loop μ-loop
-element-copy-out-ends c = omega arith
-
-mul-ends-3 : tie.Need-mul-ends-3 Inv-loop μ-loop
-mul-ends-3 c = omega arith
-
-element-copy-out-ends-2 : tie.Need-element-copy-out-ends-2 Inv-loop μ-loop
-element-copy-out-ends-2 c = omega arith
-
 ends-requires : tie.Need-ends-requires Inv-loop μ-loop
 ends-requires c κs =
     let l = c .before .before .before .before in
@@ -44,12 +26,6 @@ returns : tie.Need-returns Inv-loop μ-loop
 returns c =
     let l = c .before .before .before .before .before .before in
     passed-found (l .loop .inv) (omega arith) (c .before .ends .ensures .0 (c .if1 .taken))
-
-add-i : tie.Need-add-i Inv-loop μ-loop
-add-i c = omega arith
-
-loop-less : tie.Need-loop-less Inv-loop μ-loop
-loop-less c = omega arith
 
 loop-again : tie.Need-loop-again Inv-loop μ-loop
 loop-again c =
@@ -67,15 +43,15 @@ pair-spec =
     Inv-loop
     μ-loop
     loop-holds
-    mul-ends
-    index-1-ends
-    mul-ends-2
-    element-copy-out-ends
-    mul-ends-3
-    element-copy-out-ends-2
+    (λ c. omega arith)
+    (λ c. omega arith)
+    (λ c. omega arith)
+    (λ c. omega arith)
+    (λ c. omega arith)
+    (λ c. omega arith)
     ends-requires
     returns
-    add-i
-    loop-less
+    (λ c. omega arith)
+    (λ c. omega arith)
     loop-again
     returns-2)

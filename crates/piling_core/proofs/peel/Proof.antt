@@ -29,20 +29,8 @@ pair-requires c κs = c .before .before .before .pre .2 .left .room
 loop-holds : tie.Need-loop-holds Inv-loop μ-loop
 loop-holds c = taken-start (c .pair .ensures)
 
-mul-lead : tie.Need-mul-lead Inv-loop μ-loop
-mul-lead c = omega arith
-
-element-copy-out-lead : tie.Need-element-copy-out-lead Inv-loop μ-loop
-element-copy-out-lead c = omega arith
-
 cast-lead : tie.Need-cast-lead Inv-loop μ-loop
 cast-lead c = omega (arith, index (c .before))
-
-mul-lead-2 : tie.Need-mul-lead-2 Inv-loop μ-loop
-mul-lead-2 c = omega arith
-
-index-1-lead : tie.Need-index-1-lead Inv-loop μ-loop
-index-1-lead c = omega arith
 
 index-2-lead : tie.Need-index-2-lead Inv-loop μ-loop
 index-2-lead c = index (c .before)
@@ -55,12 +43,6 @@ add-l c =
     let a = c .before .before .before in
     let z = a .before .before .before .before .before in
     omega (arith, fits (c .before .before), taken-long (a .loop .inv) (z .pre), z .good .1 .1 .1 .1 .0)
-
-mul-narrow : tie.Need-mul-narrow Inv-loop μ-loop
-mul-narrow c = omega arith
-
-index-1-narrow : tie.Need-index-1-narrow Inv-loop μ-loop
-index-1-narrow c = omega arith
 
 narrow-requires : tie.Need-narrow-requires Inv-loop μ-loop
 narrow-requires c κs =
@@ -97,16 +79,16 @@ peel-spec =
     μ-loop
     pair-requires
     loop-holds
-    mul-lead
-    element-copy-out-lead
+    (λ c. omega arith)
+    (λ c. omega arith)
     cast-lead
-    mul-lead-2
-    index-1-lead
+    (λ c. omega arith)
+    (λ c. omega arith)
     index-2-lead
     slice-write-lead
     add-l
-    mul-narrow
-    index-1-narrow
+    (λ c. omega arith)
+    (λ c. omega arith)
     narrow-requires
     pair-requires-2
     loop-less

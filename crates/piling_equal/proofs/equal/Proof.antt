@@ -4,12 +4,6 @@ use borrow.Author.Needs.{needs}
 use Rattle.piling_equal.proofs.equal.Statement.{statement}
 use Rattle.piling_equal.proofs.equal.Tie as tie
 
-blank-rows-requires : tie.Need-blank-rows-requires
-blank-rows-requires c κs = search needs
-
-blank-heights-requires : tie.Need-blank-heights-requires
-blank-heights-requires c κs = search needs
-
 same-requires : tie.Need-same-requires
 same-requires c κs =
     let b = c .before .before .before in
@@ -33,4 +27,4 @@ returns-2 c = c .same2 .ensures
 pub equal-spec : {M : Type 1} → statement M
 equal-spec =
     tie.close
-    (tie.spec blank-rows-requires blank-heights-requires same-requires returns same-requires-2 returns-2)
+    (tie.spec (λ c κs. search needs) (λ c κs. search needs) same-requires returns same-requires-2 returns-2)

@@ -1,7 +1,8 @@
 -- `piling_equal::equals` meets its contract. The loop's invariant: of the word piled up, with the bytes from place i on
 -- undone, `spare` letters fewer than i are left.
 use native.Mathlib.Omega.{arith}
-use Rattle.piling_equal.specs.ComparingLaws.{tells, tells-not, Undoing, undoing-many, undoing-start, undoing-rest, undoing-undoable, undoing-again, undoing-over, undoing-end}
+use Rattle.piling_equal.specs.ComparingLaws.{tells, tells-not, Undoing, undoing-many, undoing-start, undoing-rest}
+use Rattle.piling_equal.specs.ComparingLaws.{undoing-undoable, undoing-again, undoing-over, undoing-end}
 use Rattle.piling_equal.proofs.equals.Statement.{statement}
 use Rattle.piling_equal.proofs.equals.Tie as tie
 
@@ -18,12 +19,6 @@ returns c = λ k z o. tells-not (undoing-many (c .if1 .taken) k z o)
 loop-holds : tie.Need-loop-holds Inv-loop μ-loop
 loop-holds c = undoing-start (c .if1 .left)
 
-sub-i : tie.Need-sub-i Inv-loop μ-loop
-sub-i c = omega arith
-
-shared-slice-read-undo-byte : tie.Need-shared-slice-read-undo-byte Inv-loop μ-loop
-shared-slice-read-undo-byte c = omega arith
-
 undo-byte-requires : tie.Need-undo-byte-requires Inv-loop μ-loop
 undo-byte-requires c κs =
     let l = c .before .before .before in
@@ -38,9 +33,6 @@ returns-2 c = λ k z o.
     let l = c .before .before .before .before .before in
     tells-not
     (undoing-over (l .before .loop .inv) (omega arith) (c .before .undo-byte .ensures) (c .if2 .taken) k z o)
-
-loop-less : tie.Need-loop-less Inv-loop μ-loop
-loop-less c = omega arith
 
 loop-again : tie.Need-loop-again Inv-loop μ-loop
 loop-again c =
@@ -58,10 +50,10 @@ equals-spec =
     μ-loop
     returns
     loop-holds
-    sub-i
-    shared-slice-read-undo-byte
+    (λ c. omega arith)
+    (λ c. omega arith)
     undo-byte-requires
     returns-2
-    loop-less
+    (λ c. omega arith)
     loop-again
     returns-3)

@@ -1,7 +1,8 @@
 -- `piling_equal::undo_byte` meets its contract.
 use native.Mathlib.Omega.{arith}
 use Rattle.piling_stacks.specs.PilingLaws.{still-ready}
-use Rattle.piling_equal.specs.ComparingLaws.{undoable-range, undoable-facing, filler-undone, cut-undone, put-undone}
+use Rattle.piling_equal.specs.ComparingLaws.{undoable-range, undoable-facing, filler-undone, cut-undone}
+use Rattle.piling_equal.specs.ComparingLaws.{put-undone}
 use Rattle.piling_equal.proofs.undo_byte.Statement.{statement}
 use Rattle.piling_equal.proofs.undo_byte.Tie as tie
 
@@ -12,14 +13,8 @@ known c = c .before .before .before .before
 returns : tie.Need-returns
 returns c = λ k z u. filler-undone u (c .if1 .taken)
 
-cast-k : tie.Need-cast-k
-cast-k c = omega arith
-
 sub-k : tie.Need-sub-k
 sub-k c = omega (arith, undoable-range (c .before .pre .2) (c .if1 .left))
-
-mul-line : tie.Need-mul-line
-mul-line c = omega arith
 
 element-copy-out-line : tie.Need-element-copy-out-line
 element-copy-out-line c = omega (arith, undoable-range (c .before .pre .2) (c .if1 .left))
@@ -74,9 +69,9 @@ undo-byte-spec =
     tie.close
     (tie.spec
     returns
-    cast-k
+    (λ c. omega arith)
     sub-k
-    mul-line
+    (λ c. omega arith)
     element-copy-out-line
     opposite-requires
     cancel-requires

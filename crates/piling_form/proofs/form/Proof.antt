@@ -6,12 +6,6 @@ use Rattle.piling_form.specs.CoringLaws.{form-starts}
 use Rattle.piling_form.proofs.form.Statement.{statement}
 use Rattle.piling_form.proofs.form.Tie as tie
 
-blank-lead-requires : tie.Need-blank-lead-requires
-blank-lead-requires c κs = search needs
-
-slice-aggregate-form-of : tie.Need-slice-aggregate-form-of
-slice-aggregate-form-of c = search needs
-
 form-of-requires : tie.Need-form-of-requires
 form-of-requires c κs =
     let s = c .before .before .before .before .before in (
@@ -23,13 +17,10 @@ form-of-requires c κs =
       },
     )
 
-same-length : tie.Need-same-length
-same-length c = search needs
-
 returns : tie.Need-returns
 returns c = λ k p. form-starts (c .before .before .before .form-of .ensures k p)
 
 pub form-spec : {M : Type 1} → statement M
 form-spec =
     tie.close
-    (tie.spec blank-lead-requires slice-aggregate-form-of form-of-requires same-length returns)
+    (tie.spec (λ c κs. search needs) (λ c. search needs) form-of-requires (λ c. search needs) returns)

@@ -35,20 +35,11 @@ module _ (c : tie.After-peel-if-arg) (k : List ℕ) where
       passed-peelable p (here .args .lead .now) (piled .before .pile .ensures k g .piled)
       (piled .blank-heights2 .ensures) (here .pre .2 .deep)
 
-blank-rows-requires : tie.Need-blank-rows-requires
-blank-rows-requires c κs = search needs
-
-blank-heights-requires : tie.Need-blank-heights-requires
-blank-heights-requires c κs = search needs
-
 pile-requires : tie.Need-pile-requires
 pile-requires c κs =
     let s = start c in
     let r = c .before .before .before .blank-rows .ensures in
     (s .pre .0, passed-given (s .pre .1) r (c .before .before .blank-heights .ensures))
-
-blank-heights-requires-2 : tie.Need-blank-heights-requires-2
-blank-heights-requires-2 c κs = search needs
 
 peel-if-requires : tie.Need-peel-if-requires
 peel-if-requires c κs =
@@ -63,12 +54,6 @@ read-off-requires c κs =
     let k = s .pre .0 in
     let q = e .peel-if .ensures k (reverse (reduced k (s .args .plan .now))) (peelable a k (s .pre .1)) in
     (k, q .0, remains-readable (s .pre .1) (s .args .area .now) (q .1) (s .pre .2 .wide))
-
-same-length : tie.Need-same-length
-same-length c = search needs
-
-same-length-2 : tie.Need-same-length-2
-same-length-2 c = search needs
 
 returns : tie.Need-returns
 returns c =
@@ -85,12 +70,12 @@ pub form-of-spec : {M : Type 1} → statement M
 form-of-spec =
     tie.close
     (tie.spec
-    blank-rows-requires
-    blank-heights-requires
+    (λ c κs. search needs)
+    (λ c κs. search needs)
     pile-requires
-    blank-heights-requires-2
+    (λ c κs. search needs)
     peel-if-requires
     read-off-requires
-    same-length
-    same-length-2
+    (λ c. search needs)
+    (λ c. search needs)
     returns)

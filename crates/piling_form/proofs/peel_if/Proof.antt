@@ -4,12 +4,6 @@ use Rattle.piling_form.specs.Coring.{peeled, whole}
 use Rattle.piling_form.proofs.peel_if.Statement.{statement}
 use Rattle.piling_form.proofs.peel_if.Tie as tie
 
-peel-requires : tie.Need-peel-requires
-peel-requires c κs = search needs
-
-same-length : tie.Need-same-length
-same-length c = search needs
-
 returns : tie.Need-returns
 returns c =
     let f = c .before .before in
@@ -22,4 +16,4 @@ returns-2 : tie.Need-returns-2
 returns-2 c = λ k x p. (x, rw (c .if1 .left) (whole (p .left)))
 
 pub peel-if-spec : {M : Type 1} → statement M
-peel-if-spec = tie.close (tie.spec peel-requires same-length returns returns-2)
+peel-if-spec = tie.close (tie.spec (λ c κs. search needs) (λ c. search needs) returns returns-2)

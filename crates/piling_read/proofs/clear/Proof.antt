@@ -15,31 +15,10 @@ abbrev μ-loop : tie.MeasureT-loop
 loop-holds : tie.Need-loop-holds Inv-loop μ-loop
 loop-holds c = changing-start without
 
-mul-free : tie.Need-mul-free Inv-loop μ-loop
-mul-free c = omega arith
-
-element-copy-out-free : tie.Need-element-copy-out-free Inv-loop μ-loop
-element-copy-out-free c = omega arith
-
 sub-free : tie.Need-sub-free Inv-loop μ-loop
 sub-free c =
     let t = c .before .before in
     omega (arith, t .before .pre .holds (t .loop .i) (omega arith))
-
-mul-free-2 : tie.Need-mul-free-2 Inv-loop μ-loop
-mul-free-2 c = omega arith
-
-element-copy-out-free-2 : tie.Need-element-copy-out-free-2 Inv-loop μ-loop
-element-copy-out-free-2 c = omega arith
-
-element-write-free : tie.Need-element-write-free Inv-loop μ-loop
-element-write-free c = omega arith
-
-add-i : tie.Need-add-i Inv-loop μ-loop
-add-i c = omega arith
-
-loop-less : tie.Need-loop-less Inv-loop μ-loop
-loop-less c = omega arith
 
 loop-again : tie.Need-loop-again Inv-loop μ-loop
 unfolding without
@@ -57,13 +36,13 @@ clear-spec =
     Inv-loop
     μ-loop
     loop-holds
-    mul-free
-    element-copy-out-free
+    (λ c. omega arith)
+    (λ c. omega arith)
     sub-free
-    mul-free-2
-    element-copy-out-free-2
-    element-write-free
-    add-i
-    loop-less
+    (λ c. omega arith)
+    (λ c. omega arith)
+    (λ c. omega arith)
+    (λ c. omega arith)
+    (λ c. omega arith)
     loop-again
     returns)

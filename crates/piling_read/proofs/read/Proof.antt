@@ -2,7 +2,8 @@
 use Prim.Native.Nat.{_-_, _<_}
 use native.Mathlib.Omega.{arith}
 use lib.ListN.{length, getD, length-set}
-use Rattle.piling_read.specs.ReadLaws.{Written, written-start, written-end, written-long, written-again, written-index, written-fits, written-lift, written-room, written-passed}
+use Rattle.piling_read.specs.ReadLaws.{Written, written-start, written-end, written-long, written-again}
+use Rattle.piling_read.specs.ReadLaws.{written-index, written-fits, written-lift, written-room, written-passed}
 use Rattle.piling_read.proofs.read.Statement.{statement}
 use Rattle.piling_read.proofs.read.Tie as tie
 
@@ -32,20 +33,8 @@ ready-requires c κs = c .before .before .before .pre .2 .left .room
 loop-holds : tie.Need-loop-holds Inv-loop μ-loop
 loop-holds c = written-start (c .ready .ensures)
 
-mul-area : tie.Need-mul-area Inv-loop μ-loop
-mul-area c = omega arith
-
-element-copy-out-area : tie.Need-element-copy-out-area Inv-loop μ-loop
-element-copy-out-area c = omega arith
-
 cast-area : tie.Need-cast-area Inv-loop μ-loop
 cast-area c = omega (arith, index (c .before))
-
-mul-area-2 : tie.Need-mul-area-2 Inv-loop μ-loop
-mul-area-2 c = omega arith
-
-index-1-area : tie.Need-index-1-area Inv-loop μ-loop
-index-1-area c = omega arith
 
 index-2-area : tie.Need-index-2-area Inv-loop μ-loop
 index-2-area c = index (c .before)
@@ -59,22 +48,10 @@ add-l c =
     let s = a .before .before .before .before .before in
     omega (arith, fits (c .before .before), written-long (a .loop .inv) (s .pre), s .good .1 .1 .1 .1 .0)
 
-mul-lift : tie.Need-mul-lift Inv-loop μ-loop
-mul-lift c = omega arith
-
-index-1-lift : tie.Need-index-1-lift Inv-loop μ-loop
-index-1-lift c = omega arith
-
 lift-requires : tie.Need-lift-requires Inv-loop μ-loop
 lift-requires c κs =
     let i = c .before .before .before .before in
     written-lift (i .before .loop .inv) (i .loop-test .taken) (i .before .before .before .before .before .before .pre)
-
-mul-next : tie.Need-mul-next Inv-loop μ-loop
-mul-next c = omega arith
-
-array-read-next : tie.Need-array-read-next Inv-loop μ-loop
-array-read-next c = omega arith
 
 cast-next : tie.Need-cast-next Inv-loop μ-loop
 cast-next c =
@@ -116,19 +93,19 @@ read-spec =
     starts-requires
     ready-requires
     loop-holds
-    mul-area
-    element-copy-out-area
+    (λ c. omega arith)
+    (λ c. omega arith)
     cast-area
-    mul-area-2
-    index-1-area
+    (λ c. omega arith)
+    (λ c. omega arith)
     index-2-area
     slice-write-area
     add-l
-    mul-lift
-    index-1-lift
+    (λ c. omega arith)
+    (λ c. omega arith)
     lift-requires
-    mul-next
-    array-read-next
+    (λ c. omega arith)
+    (λ c. omega arith)
     cast-next
     next-requires
     loop-less

@@ -1,7 +1,8 @@
 -- `piling_read::starts` meets its contract: the lines below j have been counted.
 use Prim.Native.Nat.{_-_}
 use native.Mathlib.Omega.{arith}
-use Rattle.piling_read.specs.StartsLaws.{Counting, counting-start, counting-line, counting-room, counting-again, counting-end}
+use Rattle.piling_read.specs.StartsLaws.{Counting, counting-start, counting-line, counting-room, counting-again}
+use Rattle.piling_read.specs.StartsLaws.{counting-end}
 use Rattle.piling_read.proofs.starts.Statement.{statement}
 use Rattle.piling_read.proofs.starts.Tie as tie
 
@@ -11,20 +12,8 @@ Inv-loop conflicts counts₀ free₀ j₀ counts free j = Counting conflicts cou
 abbrev μ-loop : tie.MeasureT-loop
 μ-loop conflicts counts₀ free₀ j₀ counts free j = 24 - j
 
-blank-heights-requires : tie.Need-blank-heights-requires Inv-loop μ-loop
-blank-heights-requires c κs = tt
-
-ones-requires : tie.Need-ones-requires Inv-loop μ-loop
-ones-requires c κs = tt
-
 loop-holds : tie.Need-loop-holds Inv-loop μ-loop
 loop-holds c = counting-start (c .before .blank-heights .ensures) (c .ones .ensures)
-
-mul-clear : tie.Need-mul-clear Inv-loop μ-loop
-mul-clear c = omega arith
-
-index-1-clear : tie.Need-index-1-clear Inv-loop μ-loop
-index-1-clear c = omega arith
 
 clear-requires : tie.Need-clear-requires Inv-loop μ-loop
 clear-requires c κs =
@@ -35,12 +24,6 @@ lift-requires : tie.Need-lift-requires Inv-loop μ-loop
 lift-requires c κs =
     let i = c .before .before .before .before .before in
     counting-room (i .before .loop .inv) (i .loop-test .taken) (c .before .before .clear .ensures)
-
-add-j : tie.Need-add-j Inv-loop μ-loop
-add-j c = omega arith
-
-loop-less : tie.Need-loop-less Inv-loop μ-loop
-loop-less c = omega arith
 
 loop-again : tie.Need-loop-again Inv-loop μ-loop
 loop-again c =
@@ -57,14 +40,14 @@ starts-spec =
     (tie.spec
     Inv-loop
     μ-loop
-    blank-heights-requires
-    ones-requires
+    (λ c κs. tt)
+    (λ c κs. tt)
     loop-holds
-    mul-clear
-    index-1-clear
+    (λ c. omega arith)
+    (λ c. omega arith)
     clear-requires
     lift-requires
-    add-j
-    loop-less
+    (λ c. omega arith)
+    (λ c. omega arith)
     loop-again
     returns)

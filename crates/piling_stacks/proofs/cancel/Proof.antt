@@ -1,5 +1,5 @@
--- `piling_stacks::cancel` meets its contract. Where the top bead of the letter's own stack is its undo, that can come first in
--- every word that is piled, and the letter cuts it; else it cannot.
+-- `piling_stacks::cancel` meets its contract. Where the top bead of the letter's own stack is its undo, that can come
+-- first in every word that is piled, and the letter cuts it; else it cannot.
 use Prim.Native.Nat.{_≤_}
 use native.Mathlib.Omega.{arith}
 use mathlib.Core.Path.{_∙_, sym}
@@ -10,7 +10,8 @@ use Rattle.theory_words.specs.Trace.{First}
 use Rattle.spec.specs.Byte.{undone}
 use Rattle.spec.specs.Letters.{alphabet}
 use Rattle.piling_stacks.specs.Push.{Facing}
-use Rattle.piling_stacks.specs.PilingLaws.{facing-high, top-first, first-top, cut-room, cut-acts, gone-off, none-off}
+use Rattle.piling_stacks.specs.PilingLaws.{facing-high, top-first, first-top, cut-room, cut-acts, gone-off}
+use Rattle.piling_stacks.specs.PilingLaws.{none-off}
 use Rattle.piling_stacks.proofs.cancel.Statement.{statement}
 use Rattle.piling_stacks.proofs.cancel.Tie as tie
 
@@ -23,23 +24,8 @@ first-at : (c : tie.Then2) {k z : List _} → let a = c .before .before .before 
 first-at c r =
     top-first r (omega (arith, c .before .before .before .if1 .taken)) (c .if2 .taken ∙ c .before .opposite .ensures)
 
-mul-h : tie.Need-mul-h
-mul-h c = omega arith
-
-element-copy-out-h : tie.Need-element-copy-out-h
-element-copy-out-h c = omega arith
-
 cast-h : tie.Need-cast-h
 cast-h c = omega (arith, high (c .before))
-
-sub-if2 : tie.Need-sub-if2
-sub-if2 c = omega arith
-
-mul-if2 : tie.Need-mul-if2
-mul-if2 c = omega arith
-
-index-1-if2 : tie.Need-index-1-if2
-index-1-if2 c = omega arith
 
 index-2-if2 : tie.Need-index-2-if2
 index-2-if2 c = omega (arith, high (c .before .before))
@@ -51,15 +37,6 @@ lower-requires : tie.Need-lower-requires
 lower-requires c κs =
     let r = c .before .before .before .before .before .before .pre .2 in
     cut-room r (first-at (c .before) r)
-
-sub-rows : tie.Need-sub-rows
-sub-rows c = omega arith
-
-mul-rows : tie.Need-mul-rows
-mul-rows c = omega arith
-
-index-1-rows : tie.Need-index-1-rows
-index-1-rows c = omega arith
 
 index-2-rows : tie.Need-index-2-rows
 index-2-rows c = omega (arith, high (c .before .before .before .before .before .before .before))
@@ -78,18 +55,18 @@ pub cancel-spec : {M : Type 1} → statement M
 cancel-spec =
     tie.close
     (tie.spec
-    mul-h
-    element-copy-out-h
+    (λ c. omega arith)
+    (λ c. omega arith)
     cast-h
-    sub-if2
-    mul-if2
-    index-1-if2
+    (λ c. omega arith)
+    (λ c. omega arith)
+    (λ c. omega arith)
     index-2-if2
     opposite-requires
     lower-requires
-    sub-rows
-    mul-rows
-    index-1-rows
+    (λ c. omega arith)
+    (λ c. omega arith)
+    (λ c. omega arith)
     index-2-rows
     returns
     returns-2

@@ -5,9 +5,6 @@ use Rattle.spec.specs.AlphabetLaws.{undone-does, undone-undoes}
 use Rattle.piling_stacks.proofs.opposite.Statement.{statement}
 use Rattle.piling_stacks.proofs.opposite.Tie as tie
 
-add-result : tie.Need-add-result
-add-result c = omega arith
-
 returns : tie.Need-returns
 returns c = sym (undone-does (c .before .args .letter) (omega arith) (omega arith))
 
@@ -15,4 +12,4 @@ returns-2 : tie.Need-returns-2
 returns-2 c = sym (undone-undoes (c .before .args .letter) (omega arith) (omega (arith, c .before .fits .letter)))
 
 pub opposite-spec : {M : Type 1} → statement M
-opposite-spec = tie.close (tie.spec add-result returns returns-2)
+opposite-spec = tie.close (tie.spec (λ c. omega arith) returns returns-2)

@@ -1,13 +1,13 @@
--- `piling_stacks::pile` meets its contract. The loop's invariant: the rows hold the piling of the bytes passed, under every
--- catalogue that the call allows.
+-- `piling_stacks::pile` meets its contract. The loop's invariant: the rows hold the piling of the bytes passed, under
+-- every catalogue that the call allows.
 use Prim.Native.Nat.{_-_, _≤_}
 use native.Mathlib.Omega.{arith}
 use mathlib.Core.Logic.{⊎-elim}
 use lib.ListN.{length, getD, take}
 use Rattle.spec.specs.Byte.{commandOf}
 use Rattle.piling_stacks.specs.Pile.{reduced}
-use Rattle.piling_stacks.specs.PileLaws.{Piling, piling-start, given-range, piling-ready, piling-filler, piling-letter}
-use Rattle.piling_stacks.specs.PileLaws.{piling-end}
+use Rattle.piling_stacks.specs.PileLaws.{Piling, piling-start, given-range, piling-ready, piling-filler}
+use Rattle.piling_stacks.specs.PileLaws.{piling-letter, piling-end}
 use Rattle.piling_stacks.proofs.pile.Statement.{statement}
 use Rattle.piling_stacks.proofs.pile.Tie as tie
 
@@ -19,9 +19,6 @@ abbrev μ-loop : tie.MeasureT-loop
 
 loop-holds : tie.Need-loop-holds Inv-loop μ-loop
 loop-holds c = piling-start
-
-shared-slice-read-letter : tie.Need-shared-slice-read-letter Inv-loop μ-loop
-shared-slice-read-letter c = omega arith
 
 -- the command of a byte that is no filler
 range-at : (c : tie.Then1 Inv-loop μ-loop) → let s = c .before .before .before .before .before in
@@ -53,12 +50,6 @@ push-requires c κs =
       h .inv .piled (g .0) (g .1) .count,
     )
 
-add-i : tie.Need-add-i Inv-loop μ-loop
-add-i c = omega arith
-
-loop-less : tie.Need-loop-less Inv-loop μ-loop
-loop-less c = omega arith
-
 loop-again : tie.Need-loop-again Inv-loop μ-loop
 loop-again c =
     let h = c .before .before .before .loop in
@@ -77,13 +68,13 @@ pile-spec =
     Inv-loop
     μ-loop
     loop-holds
-    shared-slice-read-letter
+    (λ c. omega arith)
     cast-k
     sub-k
     mul-line
     element-copy-out-line
     push-requires
-    add-i
-    loop-less
+    (λ c. omega arith)
+    (λ c. omega arith)
     loop-again
     returns)

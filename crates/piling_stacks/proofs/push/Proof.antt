@@ -26,9 +26,6 @@ put-requires c κs =
     let (n, q) = a .before .cancel .ensures (p .0) (p .1) (p .2 .facing) .none (a .if1 .left) in
     (p .0, p .1, still-ready (p .2 .room) (p .2 .facing) q)
 
-add-result : tie.Need-add-result
-add-result c = omega arith
-
 returns-2 : tie.Need-returns-2
 returns-2 c = λ k z r e.
     let a = c .before .before .before in
@@ -38,4 +35,4 @@ returns-2 c = λ k z r e.
 
 pub push-spec : {M : Type 1} → statement M
 push-spec =
-    tie.close (tie.spec cancel-requires sub-result returns put-requires add-result returns-2)
+    tie.close (tie.spec cancel-requires sub-result returns put-requires (λ c. omega arith) returns-2)

@@ -9,23 +9,11 @@ use Rattle.piling_stacks.proofs.put.Tie as tie
 room : (s : tie.Start) → getD (s .args .heights .now) (s .args .k) 0 < 1024
 room s = ready-room (s .pre .2) (s .args .k) (s .pre .2 .facing .within)
 
-mul-h : tie.Need-mul-h
-mul-h c = omega arith
-
-element-copy-out-h : tie.Need-element-copy-out-h
-element-copy-out-h c = omega arith
-
 cast-h : tie.Need-cast-h
 cast-h c = omega (arith, room (c .before))
 
 lift-requires : tie.Need-lift-requires
 lift-requires c κs = put-room (c .before .before .pre .2 .facing)
-
-mul-rows : tie.Need-mul-rows
-mul-rows c = omega arith
-
-index-1-rows : tie.Need-index-1-rows
-index-1-rows c = omega arith
 
 index-2-rows : tie.Need-index-2-rows
 index-2-rows c = room (c .before .before .before)
@@ -36,4 +24,4 @@ returns c = λ k z r. put-piled r (c .lift .ensures)
 pub put-spec : {M : Type 1} → statement M
 put-spec =
     tie.close
-    (tie.spec mul-h element-copy-out-h cast-h lift-requires mul-rows index-1-rows index-2-rows returns)
+    (tie.spec (λ c. omega arith) (λ c. omega arith) cast-h lift-requires (λ c. omega arith) (λ c. omega arith) index-2-rows returns)

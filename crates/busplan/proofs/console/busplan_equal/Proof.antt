@@ -7,12 +7,6 @@ use borrow.Author.Needs.{needs}
 use Rattle.busplan.proofs.console.busplan_equal.Statement.{statement}
 use Rattle.busplan.proofs.console.busplan_equal.Tie as tie
 
-equal-requires : tie.Need-equal-requires
-equal-requires c κs = search needs
-
-equal-code-requires : tie.Need-equal-code-requires
-equal-code-requires c κs = search needs
-
 returns : tie.Need-returns
 returns c =
     toZ-ofZ w64 (c .equal-code .result) (record { sfits = c .equal-code .ok })
@@ -20,4 +14,4 @@ returns c =
     ∙ ap equalCode (c .before .equal .ensures)
 
 pub busplan-equal-spec : {M : Type 1} → statement M
-busplan-equal-spec = tie.close (tie.spec equal-requires equal-code-requires returns)
+busplan-equal-spec = tie.close (tie.spec (λ c κs. search needs) (λ c κs. search needs) returns)

@@ -7,18 +7,6 @@ use borrow.Author.Needs.{needs}
 use Rattle.busplan.proofs.console.busplan_lead_in_check.Statement.{statement}
 use Rattle.busplan.proofs.console.busplan_lead_in_check.Tie as tie
 
-lead-in-check-requires : tie.Need-lead-in-check-requires
-lead-in-check-requires c κs = search needs
-
-check-code-requires : tie.Need-check-code-requires
-check-code-requires c κs = search needs
-
-same-length : tie.Need-same-length
-same-length c = search needs
-
-same-length-2 : tie.Need-same-length-2
-same-length-2 c = search needs
-
 returns : tie.Need-returns
 returns c =
     let f = c .before .before .before .before .before in
@@ -32,4 +20,4 @@ returns c =
 pub busplan-lead-in-check-spec : {M : Type 1} → statement M
 busplan-lead-in-check-spec =
     tie.close
-    (tie.spec lead-in-check-requires check-code-requires same-length same-length-2 returns)
+    (tie.spec (λ c κs. search needs) (λ c κs. search needs) (λ c. search needs) (λ c. search needs) returns)

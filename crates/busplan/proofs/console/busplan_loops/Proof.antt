@@ -9,15 +9,9 @@ use borrow.Author.Needs.{needs}
 use Rattle.busplan.proofs.console.busplan_loops.Statement.{statement}
 use Rattle.busplan.proofs.console.busplan_loops.Tie as tie
 
-loops-requires : tie.Need-loops-requires
-loops-requires c κs = search needs
-
 loops-code-requires : tie.Need-loops-code-requires
 loops-code-requires c κs = λ l e.
     omega (arith, looped-length l (c .before .before .loops .ensures) (ap toldLoops e))
-
-same-length : tie.Need-same-length
-same-length c = search needs
 
 returns : tie.Need-returns
 returns c =
@@ -29,4 +23,4 @@ returns c =
     }
 
 pub busplan-loops-spec : {M : Type 1} → statement M
-busplan-loops-spec = tie.close (tie.spec loops-requires loops-code-requires same-length returns)
+busplan-loops-spec = tie.close (tie.spec (λ c κs. search needs) loops-code-requires (λ c. search needs) returns)

@@ -9,9 +9,6 @@ use borrow.Author.Needs.{needs}
 use Rattle.busplan.proofs.console.busplan_normal_form.Statement.{statement}
 use Rattle.busplan.proofs.console.busplan_normal_form.Tie as tie
 
-normal-form-requires : tie.Need-normal-form-requires
-normal-form-requires c κs = search needs
-
 length-code-requires : tie.Need-length-code-requires
 length-code-requires c κs = λ l e.
     let f = c .before .before in
@@ -19,9 +16,6 @@ length-code-requires c κs = λ l e.
     let a = s .args in
     let h = written-length (a .catalogue .now) (a .plan .now) (a .area .now) l (f .normal-form .ensures .0) e in
     omega (arith, h, s .good .1 .0 .1)
-
-same-length : tie.Need-same-length
-same-length c = search needs
 
 returns : tie.Need-returns
 returns c =
@@ -34,4 +28,4 @@ returns c =
 
 pub busplan-normal-form-spec : {M : Type 1} → statement M
 busplan-normal-form-spec =
-    tie.close (tie.spec normal-form-requires length-code-requires same-length returns)
+    tie.close (tie.spec (λ c κs. search needs) length-code-requires (λ c. search needs) returns)

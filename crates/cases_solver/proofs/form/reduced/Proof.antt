@@ -15,44 +15,11 @@ Inv-loop c plan word₀ k₀ i₀ word k i = Unit {0}
 abbrev μ-loop : tie.MeasureT-loop
 μ-loop c plan word₀ k₀ i₀ word k i = i
 
-blank-requires : tie.Need-blank-requires Inv-loop μ-loop
-blank-requires c κs = search needs
-
-loop-holds : tie.Need-loop-holds Inv-loop μ-loop
-loop-holds c = search needs
-
-sub-i : tie.Need-sub-i Inv-loop μ-loop
-sub-i c = search needs
-
-at-requires : tie.Need-at-requires Inv-loop μ-loop
-at-requires c κs = search needs
-
-cast-k : tie.Need-cast-k Inv-loop μ-loop
-cast-k c = search needs
-
 sub-k : tie.Need-sub-k Inv-loop μ-loop
 sub-k c =
     let k = c .before .before .before .loop .k in
     let room : 0 < k = ltb-true 0 k (c .before .if1 .taken) in
     omega (arith, at-most-one (not (eqb (c .at .result) 0)))
-
-at-requires-2 : tie.Need-at-requires-2 Inv-loop μ-loop
-at-requires-2 c κs = search needs
-
-led-by-requires : tie.Need-led-by-requires Inv-loop μ-loop
-led-by-requires c κs = search needs
-
-loop-less : tie.Need-loop-less Inv-loop μ-loop
-loop-less c = search needs
-
-loop-again : tie.Need-loop-again Inv-loop μ-loop
-loop-again c = search needs
-
-returns : tie.Need-returns Inv-loop μ-loop
-returns c = search needs
-
-returns-2 : tie.Need-returns-2 Inv-loop μ-loop
-returns-2 c = search needs
 
 pub reduced-spec : {M : Type 1} → statement M
 reduced-spec =
@@ -60,15 +27,15 @@ reduced-spec =
     (tie.spec
     Inv-loop
     μ-loop
-    blank-requires
-    loop-holds
-    sub-i
-    at-requires
-    cast-k
+    (λ c κs. search needs)
+    (λ c. search needs)
+    (λ c. search needs)
+    (λ c κs. search needs)
+    (λ c. search needs)
     sub-k
-    at-requires-2
-    led-by-requires
-    loop-less
-    loop-again
-    returns
-    returns-2)
+    (λ c κs. search needs)
+    (λ c κs. search needs)
+    (λ c. search needs)
+    (λ c. search needs)
+    (λ c. search needs)
+    (λ c. search needs))
