@@ -11,7 +11,7 @@ use Rattle.spec.specs.declared.Refusal.{Refusal}
 use Rattle.input_catalogue.specs.declared.Checked.{Checked}
 use Rattle.input_catalogue.specs.declared.Checked.the-variants.{Refused, Passed}
 use Rattle.array_row.specs.Area.{StartsWith}
-use Rattle.array_row.specs.AreaLaws.{starts-area}
+use Rattle.array_row.specs.AreaLaws.{starts-length, starts-area}
 use Rattle.input_checks.specs.Entry.{OnePlan, oneLines, SameRefusal}
 use Rattle.input_checks.specs.EntryLaws.{entered-none, entered-some}
 use Rattle.spec.specs.Calls.{areaLine, normalFormLines}
@@ -41,4 +41,4 @@ module _ {c v : List ℕ} {rows : List (List ℕ)} {r : Checked} (d : OnePlan c 
         → WrittenForm f c v area (given m) after
     form-written h s =
         let z : firstLine (normalFormLines c v area) ≡ none = late ∙ rw (le-ltb (length area) (length v) h) in
-        rw z (ap given (s .count), starts-area s)
+        rw z (ap given (starts-length s), starts-area s)

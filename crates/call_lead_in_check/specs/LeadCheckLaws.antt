@@ -10,7 +10,7 @@ use Rattle.spec_laws.specs.TableLaws.{first-early, first-late}
 use Rattle.spec.specs.declared.Refusal.{Refusal}
 use Rattle.input_catalogue.specs.declared.Checked.{Checked}
 use Rattle.input_catalogue.specs.declared.Checked.the-variants.{Refused, Passed}
-use Rattle.array_row.specs.AreaLaws.{starts-area}
+use Rattle.array_row.specs.AreaLaws.{starts-length, starts-area}
 use Rattle.spec.specs.Letters.{normalForm}
 use Rattle.call_lead_in_check.specs.declared.Both.{Both}
 use Rattle.call_lead_in_check.specs.Checking.{Checkable, CheckedIn}
@@ -84,7 +84,7 @@ module _ {c v w : List ℕ} (u : List ℕ) {rows : List (List ℕ)} {r : Checked
             let z : firstLine (checkLines c v w u area0 area1) ≡ none =
             late ∙ rw (le-ltb (length area0) (length v + length u) h, le-ltb (length area1) (length u + length w) i) in
             rw z (
-              j ∙ ap given (λ x. record { yes = s x; vu = k .written0 .count x; uw = k .written1 .count x }),
+              j ∙ ap given (λ x. record { yes = s x; vu = starts-length (k .written0) x; uw = starts-length (k .written1) x }),
               starts-area (k .written0),
               starts-area (k .written1),
             )

@@ -26,7 +26,7 @@ module _ {c v core lead core′ lead′ : List ℕ} {n m : ℕ} (k : CoreOf c v 
     core-length (alphabet c) (letters v),
     ~-length (alphabet c) (k .off),
     ~-length (alphabet c) (form-~ c v),
-    k .form .count,
+    k .form .ends,
   )
 
   pub off-fits : m ≤ length lead′

@@ -10,7 +10,7 @@ use Rattle.theory_conjugacy.specs.TurnLaws.{round-~}
 use Rattle.theory_conjugacy.specs.CoreLaws.{core-round}
 use Rattle.spec.specs.Catalogue.{commands}
 use Rattle.array_row.specs.Area.{StartsWith}
-use Rattle.array_row.specs.AreaLaws.{starts-area}
+use Rattle.array_row.specs.AreaLaws.{starts-length, starts-area}
 use Rattle.spec.specs.Letters.{letters, alphabet, undoneBefore, normalForm}
 use Rattle.spec_laws.specs.LettersLaws.{letters-length, commands-passing}
 use Rattle.long_form.specs.Reducing.{Given}
@@ -158,5 +158,5 @@ module _ {c : List ℕ} {conflicts : List (List ℕ)} {v w : List ℕ} {n : ℕ}
   pub word-told : {area after : List ℕ} {r : ℕ} → StartsWith (normalForm c (take end row)) area after r
       → Told c v w area (Joined r) after
   word-told {area} {after} {r} o =
-      subst₂ (λ m a. Told c v w area (Joined m) a) (sym (o .count)) (sym (starts-area o))
+      subst₂ (λ m a. Told c v w area (Joined m) a) (sym (starts-length o)) (sym (starts-area o))
       (joined (d .joined) (d .leads))

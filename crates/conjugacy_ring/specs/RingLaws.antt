@@ -13,7 +13,7 @@ use Rattle.theory_words.specs.ReduceLaws.{reduce-fixed}
 use Rattle.theory_words.specs.Normal.{nf, lex}
 use Rattle.spec.specs.Catalogue.{commands}
 use Rattle.array_row.specs.Area.{StartsWith}
-use Rattle.array_row.specs.AreaLaws.{starts-take}
+use Rattle.array_row.specs.AreaLaws.{starts-length, starts-take}
 use Rattle.spec.specs.Plan.{isCommand}
 use Rattle.input_plan.specs.Lettered.{Lettered}
 use Rattle.input_plan.specs.LetteredLaws.{commands-lettered}
@@ -195,7 +195,7 @@ module _ {c : List ℕ} {conflicts : List (List ℕ)} {x labels : List ℕ} {ape
             ap (normalForm c) (f ∙ h .reached) ∙ settled-normal (k .core .cyclic) apex rounds (h .still) ∙ a in
             record {
               ring = starts-take w ∙ g;
-              count = w .count ∙ ap length g;
+              count = starts-length w ∙ ap length g;
               cycled = h .written ∙ ap (λ (y : List ℕ). take at out ++ y) b;
               end = h .end ∙ ap (λ (y : List ℕ). at + length y) b;
             }

@@ -11,6 +11,7 @@ use Rattle.input_plan.specs.Lettered.{Lettered}
 use Rattle.spec.specs.Letters.{alphabet}
 use Rattle.theory_conjugacy.specs.Settle.{split}
 use Rattle.array_sets.specs.Sets.{Clear, Table, Meeting, Added}
+use Rattle.array_row.specs.Area.{StartsWith}
 use Rattle.conjugacy_settling.specs.declared.Halves.{Halves}
 
 -- a letter, the set of raised commands, and room for one more letter in both halves
@@ -43,12 +44,7 @@ pub record Splittable (c word : List ℕ) (conflicts : List (List ℕ)) (low hig
   pub lower : length word ≤ length low
   pub upper : length word ≤ length high
 
--- new is old with its first n bytes replaced by p
-pub record Over (p : List ℕ) (n : ℕ) (old new : List ℕ) : Type 0 where
-  pub many : length p ≡ n
-  pub holds : new ≡ p ++ drop n old
-
 -- the halves of the word are in low and high, and past them these are as they were
 pub record Halved (c : List ℕ) (apex : ℕ) (word low high low′ high′ : List ℕ) (r : Halves) : Type 0 where
-  pub lower : Over (split (alphabet c) apex [] word .0) (r .low) low low′
-  pub upper : Over (split (alphabet c) apex [] word .1) (r .high) high high′
+  pub lower : StartsWith (split (alphabet c) apex [] word .0) low low′ (r .low)
+  pub upper : StartsWith (split (alphabet c) apex [] word .1) high high′ (r .high)

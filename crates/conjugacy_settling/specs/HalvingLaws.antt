@@ -22,32 +22,11 @@ use Rattle.theory_conjugacy.specs.SettleLaws.{split-unique}
 use Rattle.conjugacy_settling.specs.declared.Halves.{Halves}
 use Rattle.array_sets.specs.Sets.{Clear, Meeting, empty}
 use Rattle.array_sets.specs.SetsLaws.{empty-meeting}
+use Rattle.array_row.specs.Area.{StartsWith}
+use Rattle.array_row.specs.RowLaws.{appended-start, appended-length, appended-again}
 use Rattle.conjugacy_settling.specs.MarksLaws.{Marks, marks-none, marks-add, conflicts-table, clear-meets}
 use Rattle.conjugacy_settling.specs.MarksLaws.{meets-clear}
-use Rattle.conjugacy_settling.specs.Halving.{Place, lineOf, Placed, below, above, Splittable, Over, Halved}
-
--- bytes written over the front of an array
-
-pub over-start : (old : List ℕ) → Over [] 0 old old
-over-start old = record { many = refl; holds = refl }
-
-pub over-more : {p old new : List ℕ} {n : ℕ} (b : ℕ) → n < length old → Over p n old new
-    → Over (p ++ b ∷ []) (n + 1) old (set new n b)
-over-more {p} {old} {new} {n} b l o = record {
-  many = length-append p (b ∷ []) ∙ ap (λ (m : ℕ). m + 1) (o .many);
-  holds =
-      ap (λ (x : List ℕ). set x n b) (o .holds ∙ ap (λ (x : List ℕ). p ++ x) (drop-cons old n 0 l))
-      ∙ set-at p (getD old n 0) (drop (suc n) old) b n (o .many)
-      ∙ sym (append-snoc p b (drop (suc n) old))
-      ∙ ap (λ (m : ℕ). (p ++ b ∷ []) ++ drop m old) (sym (add-one n));
-}
-
-pub over-length : {p old new : List ℕ} {n : ℕ} → n ≤ length old → Over p n old new → length new ≡ length old
-over-length {p} {old} {new} {n} l o =
-    ap length (o .holds) ∙ length-append p (drop n old) ∙ omega (arith, length-drop n old, o .many)
-
-pub over-take : {p old new : List ℕ} {n : ℕ} → Over p n old new → take n new ≡ p
-over-take {p} {old} {new} {n} o = ap (take n) (o .holds) ∙ take-at p (drop n old) n (o .many)
+use Rattle.conjugacy_settling.specs.Halving.{Place, lineOf, Placed, below, above, Splittable, Halved}
 
 -- where a letter goes
 
@@ -77,8 +56,8 @@ pub record Halfway (c : List ℕ) (apex : ℕ) (word low₀ high₀ raised low h
   pub p : List ℕ
   pub q : List ℕ
   pub marks : Marks raised R
-  pub lower : Over p (ends .low) low₀ low
-  pub upper : Over q (ends .high) high₀ high
+  pub lower : StartsWith p low₀ low (ends .low)
+  pub upper : StartsWith q high₀ high (ends .high)
   pub onward : (x y : List ℕ) → Split (alphabet c) apex R (drop i word) x y
       → Split (alphabet c) apex [] word (p ++ x) (q ++ y)
 
@@ -111,8 +90,8 @@ module _ {word : List ℕ} {apex : ℕ} {conflicts : List (List ℕ)} {low₀ hi
       p = [];
       q = [];
       marks = rw e marks-none;
-      lower = over-start low₀;
-      upper = over-start high₀;
+      lower = appended-start low₀ 0;
+      upper = appended-start high₀ 0;
       onward = λ x y s. s;
     };
   }
@@ -123,8 +102,8 @@ module _ {word : List ℕ} {apex : ℕ} {conflicts : List (List ℕ)} {low₀ hi
         → (length low ≡ length low₀) × (length high ≡ length high₀)
     halving-lengths {c} g =
         let t = h .half c g in (
-          over-length (omega (arith, h .count, h .within, g .lower)) (t .lower),
-          over-length (omega (arith, h .count, h .within, g .upper)) (t .upper),
+          appended-length (t .lower) (omega (arith, h .count, h .within, g .lower)),
+          appended-length (t .upper) (omega (arith, h .count, h .within, g .upper)),
         )
 
     pub halving-place : {c : List ℕ} → Splittable c word conflicts low₀ high₀ → i < length word
@@ -160,7 +139,7 @@ module _ {word : List ℕ} {apex : ℕ} {conflicts : List (List ℕ)} {low₀ hi
             p = t .p ++ b ∷ [];
             q = t .q;
             marks = t .marks;
-            lower = over-more b (omega (arith, h .count, g .lower)) (t .lower);
+            lower = appended-again (t .lower) b (omega (arith, h .count, g .lower));
             upper = t .upper;
             onward = λ x y s.
                 rw (append-snoc (t .p) b x)
@@ -182,7 +161,7 @@ module _ {word : List ℕ} {apex : ℕ} {conflicts : List (List ℕ)} {low₀ hi
             q = t .q ++ b ∷ [];
             marks = marks-add (commandOf b) (r .0) (r .1) a (t .marks);
             lower = t .lower;
-            upper = over-more b (omega (arith, h .count, g .upper)) (t .upper);
+            upper = appended-again (t .upper) b (omega (arith, h .count, g .upper));
             onward = λ x y s.
                 rw (append-snoc (t .q) b y)
                 (t .onward x (b ∷ y) (rw (rest-at l) (up k s)));

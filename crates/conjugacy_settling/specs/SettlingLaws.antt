@@ -15,7 +15,8 @@ use Rattle.theory_conjugacy.specs.Settle.{split, settled, settled-step, cycled,
 use Rattle.theory_conjugacy.specs.SettleLaws.{split-splits, split-~}
 use Rattle.conjugacy_settling.specs.declared.Halves.{Halves}
 use Rattle.conjugacy_settling.specs.Halving.{Splittable, Halved}
-use Rattle.conjugacy_settling.specs.HalvingLaws.{over-take, over-length}
+use Rattle.array_row.specs.RowLaws.{appended-length}
+use Rattle.array_row.specs.AreaLaws.{starts-length, starts-take}
 use Rattle.conjugacy_settling.specs.Settling.{Exchange, Exchanged, Settleable, Ended}
 
 length-zero : (w : List ℕ) → length w ≡ 0 → w ≡ []
@@ -88,16 +89,16 @@ exchanged {word} {low} {lower} {high} {upper} {out} {at = at} x o e f = record {
 module _ {c : List ℕ} {apex : ℕ} {word low high low′ high′ : List ℕ} {ends : Halves}
     (h : Halved c apex word low high low′ high′ ends) where
   halved-ends : ends .high + ends .low ≡ length word
-  halved-ends = omega (arith, split-length (alphabet c) apex word, h .lower .many, h .upper .many)
+  halved-ends = omega (arith, split-length (alphabet c) apex word, h .lower .ends, h .upper .ends)
 
   halved-none : ends .low ≡ 0 → split (alphabet c) apex [] word .0 ≡ []
-  halved-none e = length-zero (split (alphabet c) apex [] word .0) (h .lower .many ∙ e)
+  halved-none e = length-zero (split (alphabet c) apex [] word .0) (sym (starts-length (h .lower)) ∙ e)
 
   halved-exchange : {conflicts : List (List ℕ)} {out : List ℕ} {at : ℕ} → Splittable c word conflicts low high
       → at + length word ≤ length out → Exchange word low′ (ends .low) high′ (ends .high) out at
   halved-exchange g l =
-      let e = over-length (omega (arith, halved-ends, g .lower)) (h .lower) in
-      let f = over-length (omega (arith, halved-ends, g .upper)) (h .upper) in
+      let e = appended-length (h .lower) (omega (arith, halved-ends, g .lower)) in
+      let f = appended-length (h .upper) (omega (arith, halved-ends, g .upper)) in
       record {
         whole = halved-ends;
         lows = omega (arith, halved-ends, g .lower);
@@ -193,7 +194,7 @@ module _ {word₀ : List ℕ} {apex rounds : ℕ} {conflicts : List (List ℕ)} 
           let s : settled (alphabet c) apex rounds word₀ ≡ word =
           r .reached c g .onward ∙ ap (λ (k : ℕ). settled (alphabet c) apex k word) z in
           let k : split (alphabet c) apex [] word .0 ≡ [] = rw s at e in
-          n (sym (f c (rounds-splittable g) .lower .many) ∙ ap length k)
+          n (starts-length (f c (rounds-splittable g) .lower) ∙ ap length k)
 
       pub rounds-again : {word′ out′ : List ℕ} → ¬ (left ≡ 0) → ¬ (ends .low ≡ 0) → length word′ ≡ length word
           → length low′ ≡ length low → length high′ ≡ length high → length out′ ≡ length out
@@ -213,16 +214,16 @@ module _ {word₀ : List ℕ} {apex rounds : ℕ} {conflicts : List (List ℕ)} 
           go c t h =
               let Γ = alphabet c in
               let (p, q) = split Γ apex [] word in
-              let o : ¬ (p ≡ []) = λ z. n (sym (h .lower .many) ∙ ap length z) in
+              let o : ¬ (p ≡ []) = λ z. n (starts-length (h .lower) ∙ ap length z) in
               let k : left ≡ suc (left - 1) = omega arith in
               let (s, y) = rounds-turn Γ apex (left - 1) word o in
-              let v : word′ ≡ q ++ p = rw (over-take (h .lower), over-take (h .upper)) at (x .turned) in
-              let w : take (end + ends .low) out′ ≡ take end out ++ p = rw (over-take (h .lower)) at (x .written) in
+              let v : word′ ≡ q ++ p = rw (starts-take (h .lower), starts-take (h .upper)) at (x .turned) in
+              let w : take (end + ends .low) out′ ≡ take end out ++ p = rw (starts-take (h .lower)) at (x .written) in
               record {
                 letters = rw v (split-turned Γ apex Lettered word (t .letters));
                 g = t .g ++ p;
                 written = w ∙ ap (λ (z : List ℕ). z ++ p) (t .written) ∙ append-assoc (take at out₀) (t .g) p;
-                ended = omega (arith, length-append (t .g) p, t .ended, h .lower .many);
+                ended = omega (arith, length-append (t .g) p, t .ended, h .lower .ends);
                 room = omega (arith, t .room, halved-ends h, r .sameWord, less (length word₀) left l);
                 onward =
                     t .onward ∙ ap (λ (i : ℕ). settled Γ apex i word) k ∙ s ∙ ap (settled Γ apex (left - 1)) (sym v);

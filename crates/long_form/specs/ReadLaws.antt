@@ -63,7 +63,7 @@ module _ {c word under link x before tops blanks area : List ℕ} {l : ℕ} {y :
       let t : lex (alphabet c) (length x) x ≡ take l area
       = g .taken ∙ ap (λ (s : List ℕ). take l area ++ s) e ∙ append-nil (take l area) in
       record {
-        count = sym (ap length t ∙ length-take-le l area (omega (arith, g .fits)));
+        ends = omega (arith, ap length t, length-take-le l area (omega (arith, g .fits)));
         bytes = sym (take-append-drop l area) ∙ ap (λ (s : List ℕ). s ++ drop l area) (sym t)
             ∙ ap (λ (s : List ℕ). lex (alphabet c) (length x) x ++ s) (g .kept);
       }

@@ -75,7 +75,7 @@ module _ {c plan : List ℕ} {rows : List (List ℕ)} {lead heights at lead′ :
         form = rw (peeled-normal q d (letters plan) (reduced-word c plan)) at o;
         off = peeled-core q d (letters plan) (reduced-word c plan) .1;
         count =
-            omega (arith, q .count, o .count, ~-length (alphabet c) (lex-~ (alphabet c) z), ~-length (alphabet c) s);
+            omega (arith, q .count, o .ends, ~-length (alphabet c) (lex-~ (alphabet c) z), ~-length (alphabet c) s);
         fits = omega (arith, q .count, length-reverse (reduced c plan), reduced-length c plan);
         kept = q .kept;
       }

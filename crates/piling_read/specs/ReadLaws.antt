@@ -37,7 +37,7 @@ module _ {rows : List (List ℕ)} {heights c x before at area : List ℕ} {l : �
       let t : lex (alphabet c) (length x) x ≡ take l area
       = g .taken ∙ ap (λ s. take l area ++ s) e ∙ append-nil (take l area) in
       record {
-        count = sym (ap length t ∙ length-take-le l area (omega (arith, g .fits)));
+        ends = omega (arith, ap length t, length-take-le l area (omega (arith, g .fits)));
         bytes = sym (take-append-drop l area) ∙ ap (λ s. s ++ drop l area) (sym t)
             ∙ ap (λ s. lex (alphabet c) (length x) x ++ s) (g .kept);
       }
