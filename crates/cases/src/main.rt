@@ -4,11 +4,10 @@
 
 mod ask;
 
-ghost use Prim.Native.Nat.{_<_};
 ghost use mathlib.Core.Path.{_≡_};
 ghost use lib.ListN.{length};
 ghost use Rattle.io.specs.Counts.{Counts};
-use answers::solved;
+use cases_report::solved;
 use cases_solver::at;
 use cases_table::AREA;
 use cases_table::CATALOGUE;
@@ -71,29 +70,21 @@ fn agree(pairs: bool, p: usize) -> bool {
     }
 }
 
-// On how many plans of four bytes, or pairs of two, they agree.
-fn every(pairs: bool) -> usize {
+// Every plan of four bytes, or every pair of plans of two.
+fn every(pairs: bool, what: &[u8]) {
     let mut count: usize = 0;
     let mut p: usize = 0;
     while p < 6561 {
         count += agree(pairs, p) as usize;
         p += 1;
     }
-    count
+    cases_report::count(count, p, what);
 }
 
 fn main() {
     let mut text = io::buffer();
     let n = io::read_full(0, &mut text);
     table(&text[..n]);
-    cases_report::count(
-        every(false),
-        6561,
-        b" plans of 4 bytes agree, in normal form and core\n",
-    );
-    cases_report::count(
-        every(true),
-        6561,
-        b" pairs of plans of 2 bytes agree, joined or apart\n",
-    );
+    every(false, b" plans of 4 bytes agree, in normal form and core\n");
+    every(true, b" pairs of plans of 2 bytes agree, joined or apart\n");
 }

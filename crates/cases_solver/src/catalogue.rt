@@ -2,14 +2,7 @@
 // place 1 + a.
 
 ghost use Prim.Native.Nat.{_<_};
-
-// The byte at place i, and 0 past the end.
-pub fn at(bytes: &[u8], i: usize) -> u8 {
-    if i < bytes.len() {
-        return bytes[i];
-    }
-    0
-}
+use crate::word::at;
 
 // The place of a record.
 fn record(c: &[u8], index: u8) -> usize

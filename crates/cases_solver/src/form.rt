@@ -2,18 +2,17 @@
 // again and again.
 
 ghost use Prim.Native.Nat.{_≤_};
-use crate::catalogue::at;
 use crate::catalogue::tied;
 use crate::word::Word;
+use crate::word::at;
 use crate::word::blank;
-use crate::word::letter;
 use crate::word::undo;
 use crate::word::with;
 
 // The first place whose letter is tied to a, or 64.
 fn first_tied(c: &[u8], word: Word, a: u8) -> usize {
     let mut i: usize = 0;
-    while i < 64 && !tied(c, a, letter(word, i)) {
+    while i < 64 && !tied(c, a, at(&word, i)) {
         i += 1;
     }
     i
@@ -22,7 +21,7 @@ fn first_tied(c: &[u8], word: Word, a: u8) -> usize {
 // A word with the letter a before it, at place k; a goes off with its undo, if that can come first.
 fn led_by(c: &[u8], a: u8, k: usize, word: Word) -> Word {
     let i = first_tied(c, word, a);
-    if letter(word, i) == undo(a) {
+    if at(&word, i) == undo(a) {
         with(word, i, 0)
     } else {
         with(word, k, a)
@@ -61,7 +60,8 @@ fn first(c: &[u8], word: Word) -> u8 {
     let mut n: usize = 2;
     while n < end {
         let a = numbered(n);
-        if letter(word, first_tied(c, word, a)) == a {
+        let i = first_tied(c, word, a);
+        if at(&word, i) == a {
             return a;
         }
         n += 1;

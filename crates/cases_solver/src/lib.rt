@@ -1,18 +1,22 @@
-// A second opinion on normal forms, for the bench cases: words are rewritten letter by letter, with no piling and no
-// row of beads. It knows nothing of the library but the specification.
+// A second opinion on the bench cases, which knows nothing of the library but the specification: words are rewritten
+// letter by letter, with no piling and no row of beads.
 
 mod catalogue;
+mod conjugacy;
 mod form;
+mod refusals;
 mod word;
 
-pub use catalogue::at;
-pub use catalogue::walk;
-pub use form::letters;
+pub use conjugacy::core;
+pub use conjugacy::joined;
+pub use conjugacy::leads;
 pub use form::normal_form;
-pub use form::numbered;
+pub use refusals::or;
+pub use refusals::refusal;
+pub use refusals::refusal_of_form;
+pub use refusals::refusal_of_loops;
 pub use word::Word;
+pub use word::at;
 pub use word::blank;
-pub use word::letter;
 pub use word::same;
-pub use word::undo;
 pub use word::with;

@@ -7,10 +7,10 @@ pub fn blank() -> Word {
     [0; 64]
 }
 
-// The byte at place i, and 0 past the end.
-pub fn letter(word: Word, i: usize) -> u8 {
-    if i < 64 {
-        return word[i];
+// The byte at place i of a word, a plan or a catalogue, and 0 past the end.
+pub fn at(bytes: &[u8], i: usize) -> u8 {
+    if i < bytes.len() {
+        return bytes[i];
     }
     0
 }
@@ -31,7 +31,7 @@ pub fn undo(a: u8) -> u8 {
 // Have two words the same bytes.
 pub fn same(v: Word, w: Word) -> bool {
     let mut i: usize = 0;
-    while i < 64 && letter(v, i) == letter(w, i) {
+    while i < 64 && at(&v, i) == at(&w, i) {
         i += 1;
     }
     i == 64

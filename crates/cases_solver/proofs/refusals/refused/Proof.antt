@@ -1,8 +1,8 @@
 -- `refused` is safe and ends: the measure is `end - l`.
 use Prim.Native.Nat.{_-_}
 use borrow.Author.Needs.{needs}
-use Rattle.faults.proofs.refused.Statement.{statement}
-use Rattle.faults.proofs.refused.Tie as tie
+use Rattle.cases_solver.proofs.refusals.refused.Statement.{statement}
+use Rattle.cases_solver.proofs.refusals.refused.Tie as tie
 
 abbrev Inv-loop : tie.InvT-loop
 Inv-loop c plan line end number found₀ l₀ found l = Unit {0}

@@ -1,8 +1,8 @@
 -- `shortened` is safe and ends: the measure is `end - n`.
 use Prim.Native.Nat.{_-_}
 use borrow.Author.Needs.{needs}
-use Rattle.conjugating.proofs.shortened.Statement.{statement}
-use Rattle.conjugating.proofs.shortened.Tie as tie
+use Rattle.cases_solver.proofs.conjugacy.shortened.Statement.{statement}
+use Rattle.cases_solver.proofs.conjugacy.shortened.Tie as tie
 
 abbrev Inv-loop : tie.InvT-loop
 Inv-loop c x end n₀ n = Unit {0}

@@ -1,8 +1,8 @@
 -- `letters` is safe and ends: the measure is `62 - i`.
 use Prim.Native.Nat.{_-_}
 use borrow.Author.Needs.{needs}
-use Rattle.answers.proofs.library.letters.Statement.{statement}
-use Rattle.answers.proofs.library.letters.Tie as tie
+use Rattle.cases_report.proofs.library.letters.Statement.{statement}
+use Rattle.cases_report.proofs.library.letters.Tie as tie
 
 abbrev Inv-loop : tie.InvT-loop
 Inv-loop area number word₀ i₀ word i = Unit {0}

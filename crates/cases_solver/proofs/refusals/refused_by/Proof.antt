@@ -1,8 +1,8 @@
 -- `refused_by` is safe and ends: the measure is `end - k`.
 use Prim.Native.Nat.{_-_}
 use borrow.Author.Needs.{needs}
-use Rattle.faults.proofs.refused_by.Statement.{statement}
-use Rattle.faults.proofs.refused_by.Tie as tie
+use Rattle.cases_solver.proofs.refusals.refused_by.Statement.{statement}
+use Rattle.cases_solver.proofs.refusals.refused_by.Tie as tie
 
 abbrev Inv-loop : tie.InvT-loop
 Inv-loop c plan line number end k₀ k = Unit {0}

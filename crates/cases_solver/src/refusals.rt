@@ -1,13 +1,12 @@
-// A second opinion on refusals, for the bench cases: what is wrong with the input of a call, straight from the
-// specification's table. A refusal is an answer of 64 bytes with its number at place 63, its plan at 62 and its place
-// at 60 and 61, high byte first; the number is 0 where nothing is wrong.
+// Refusals: what is wrong with the input of a call, straight from the specification's table. A refusal is a word with
+// its number at place 63, its plan at 62 and its place at 60 and 61, high byte first; the number is 0 where nothing is
+// wrong.
 
-use cases_solver::Word;
-use cases_solver::at;
-use cases_solver::blank;
-use cases_solver::letter;
-use cases_solver::walk;
-use cases_solver::with;
+use crate::catalogue::walk;
+use crate::word::Word;
+use crate::word::at;
+use crate::word::blank;
+use crate::word::with;
 
 pub fn refusal(number: u8, plan: u8, place: usize) -> Word {
     let high = with(blank(), 60, (place / 256 % 256) as u8);
@@ -17,11 +16,7 @@ pub fn refusal(number: u8, plan: u8, place: usize) -> Word {
 
 // The first answer where it is a refusal, or else the second.
 pub fn or(first: Word, second: Word) -> Word {
-    if letter(first, 63) != 0 {
-        first
-    } else {
-        second
-    }
+    if at(&first, 63) != 0 { first } else { second }
 }
 
 // Line 1.
@@ -111,14 +106,14 @@ fn small_area(room: usize, commands: usize, bytes: usize) -> Word {
 }
 
 // Of a normal form or a core.
-pub fn of_form(c: &[u8], plan: &[u8], room: usize) -> Word {
+pub fn refusal_of_form(c: &[u8], plan: &[u8], room: usize) -> Word {
     let first = or(refused(c, plan, 1, 7, 0), refused(c, plan, 7, 9, 1));
     or(first, small_area(room, 1, plan.len()))
 }
 
 // Of two loops.
-pub fn of_loops(c: &[u8], v: &[u8], w: &[u8], room: usize) -> Word {
-    let first = or(of_form(c, v, v.len()), refused(c, w, 7, 9, 2));
+pub fn refusal_of_loops(c: &[u8], v: &[u8], w: &[u8], room: usize) -> Word {
+    let first = or(refusal_of_form(c, v, v.len()), refused(c, w, 7, 9, 2));
     or(
         first,
         small_area(room, at(c, 0) as usize, v.len() + w.len()),

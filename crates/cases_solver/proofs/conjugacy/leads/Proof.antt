@@ -1,8 +1,8 @@
 -- `leads` is safe and ends: the measure is `n - i`.
 use Prim.Native.Nat.{_-_}
 use borrow.Author.Needs.{needs}
-use Rattle.conjugating.proofs.leads.Statement.{statement}
-use Rattle.conjugating.proofs.leads.Tie as tie
+use Rattle.cases_solver.proofs.conjugacy.leads.Statement.{statement}
+use Rattle.cases_solver.proofs.conjugacy.leads.Tie as tie
 
 abbrev Inv-loop : tie.InvT-loop
 Inv-loop c v w u n x₀ i₀ x i = Unit {0}

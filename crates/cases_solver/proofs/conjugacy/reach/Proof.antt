@@ -3,8 +3,8 @@ use Prim.Native.Nat.{_-_, _≤_}
 use native.Mathlib.Omega.{arith}
 use borrow.Author.Needs.{needs}
 use borrow.Author.Tests.{ltb-true}
-use Rattle.conjugating.proofs.reach.Statement.{statement}
-use Rattle.conjugating.proofs.reach.Tie as tie
+use Rattle.cases_solver.proofs.conjugacy.reach.Statement.{statement}
+use Rattle.cases_solver.proofs.conjugacy.reach.Tie as tie
 
 abbrev Inv-loop : tie.InvT-loop
 Inv-loop c rows₀ end count₀ t₀ rows count t = count ≤ 64

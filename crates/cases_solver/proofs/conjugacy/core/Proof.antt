@@ -1,8 +1,8 @@
 -- `core` is safe and ends: the measure is `turns - turn`.
 use Prim.Native.Nat.{_-_}
 use borrow.Author.Needs.{needs}
-use Rattle.conjugating.proofs.core.Statement.{statement}
-use Rattle.conjugating.proofs.core.Tie as tie
+use Rattle.cases_solver.proofs.conjugacy.core.Statement.{statement}
+use Rattle.cases_solver.proofs.conjugacy.core.Tie as tie
 
 abbrev Inv-loop : tie.InvT-loop
 Inv-loop c plan x₀ turns turn₀ x turn = Unit {0}
@@ -17,6 +17,7 @@ core-spec =
     Inv-loop
     μ-loop
     (λ c κs. search needs)
+    (λ c. search needs)
     (λ c κs. search needs)
     (λ c. search needs)
     (λ c κs. search needs)

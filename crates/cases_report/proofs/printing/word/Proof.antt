@@ -1,8 +1,8 @@
 -- `word` is safe and ends: the measure is `n - i`.
 use Prim.Native.Nat.{_-_}
 use borrow.Author.Needs.{needs}
-use Rattle.cases_report.proofs.word.Statement.{statement}
-use Rattle.cases_report.proofs.word.Tie as tie
+use Rattle.cases_report.proofs.printing.word.Statement.{statement}
+use Rattle.cases_report.proofs.printing.word.Tie as tie
 
 abbrev Inv-loop : tie.InvT-loop
 Inv-loop form n i₀ i = Unit {0}
@@ -16,10 +16,12 @@ word-spec =
     (tie.spec
     Inv-loop
     μ-loop
+    (λ c. search needs)
     (λ c κs. search needs)
     (λ c. search needs)
     (λ c. search needs)
     (λ c κs. search needs)
+    (λ c. search needs)
     (λ c. search needs)
     (λ c. search needs)
     (λ c κs. search needs)

@@ -1,8 +1,8 @@
 -- `known` is safe and ends: the measure is `64 - i`.
 use Prim.Native.Nat.{_-_}
 use borrow.Author.Needs.{needs}
-use Rattle.conjugating.proofs.known.Statement.{statement}
-use Rattle.conjugating.proofs.known.Tie as tie
+use Rattle.cases_solver.proofs.conjugacy.known.Statement.{statement}
+use Rattle.cases_solver.proofs.conjugacy.known.Tie as tie
 
 abbrev Inv-loop : tie.InvT-loop
 Inv-loop rows x i₀ i = Unit {0}

@@ -13,7 +13,7 @@ use spec::Written;
 
 fn refused(refusal: Refusal) -> Word {
     let reason = refusal.reason;
-    faults::refusal(call_codes::number(reason), refusal.plan, refusal.place)
+    cases_solver::refusal(call_codes::number(reason), refusal.plan, refusal.place)
 }
 
 // The first letters of an area, behind their number.

@@ -1,17 +1,15 @@
-// A second opinion on loops, for the bench cases: words are shortened by conjugation with single letters, then
-// searched for among all words of the shortest length that such conjugations reach. There are no parts, no settling
-// and no rings.
+// Loops: words are shortened by conjugation with single letters, then searched for among all words of the shortest
+// length that such conjugations reach. There are no parts, no settling and no rings.
 
 ghost use Prim.Native.Nat.{_<_, _≤_};
-use cases_solver::Word;
-use cases_solver::at;
-use cases_solver::letter;
-use cases_solver::letters;
-use cases_solver::normal_form;
-use cases_solver::numbered;
-use cases_solver::same;
-use cases_solver::undo;
-use cases_solver::with;
+use crate::form::letters;
+use crate::form::normal_form;
+use crate::form::numbered;
+use crate::word::Word;
+use crate::word::at;
+use crate::word::same;
+use crate::word::undo;
+use crate::word::with;
 
 // The normal form of: undo of a, the normal form x, a.
 fn conjugate(c: &[u8], x: Word, a: u8) -> Word {
@@ -21,7 +19,7 @@ fn conjugate(c: &[u8], x: Word, a: u8) -> Word {
 
 // Is the normal form x longer than y.
 fn longer(x: Word, y: Word) -> bool {
-    letter(y, 0) < letter(x, 0)
+    at(&y, 0) < at(&x, 0)
 }
 
 // A shorter conjugate of x by one letter, or x if there is none.
@@ -41,7 +39,7 @@ fn shortened(c: &[u8], x: Word) -> Word {
 // The core of a plan, in normal form: each turn takes two letters off, or there are none to take.
 pub fn core(c: &[u8], plan: &[u8]) -> Word {
     let mut x = normal_form(c, plan);
-    let turns = letter(x, 0) / 2;
+    let turns = at(&x, 0) / 2;
     let mut turn: u8 = 0;
     while turn < turns {
         let y = shortened(c, x);

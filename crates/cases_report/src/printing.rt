@@ -1,0 +1,108 @@
+// Printing: answers, each behind a space and letters as document 01 writes them, and counts.
+
+use cases_solver::Word;
+use cases_solver::at;
+use cases_solver::same;
+
+fn text(bytes: &[u8]) {
+    io::write_all(1, bytes);
+}
+
+fn byte(b: u8) {
+    let one = [b];
+    text(&one);
+}
+
+fn number(n: usize) {
+    io::print_decimal(1, n as u64);
+}
+
+// A letter, or a number below 128.
+fn signed(b: u8) {
+    byte(b' ');
+    if 127 < b {
+        byte(b'-');
+    }
+    number((b % 128) as usize);
+}
+
+// The letters of a normal form, behind their number.
+fn word(form: Word) {
+    let n = at(&form, 0) as usize;
+    if n == 0 {
+        text(b" empty");
+    }
+    let mut i: usize = 0;
+    while i < n {
+        i += 1;
+        signed(at(&form, i));
+    }
+}
+
+fn refusal(answer: Word) {
+    text(b" refused");
+    signed(at(&answer, 63));
+    signed(at(&answer, 62));
+    byte(b' ');
+    number(256 * (at(&answer, 60) as usize) + at(&answer, 61) as usize);
+}
+
+fn yes(call: u8) {
+    match call {
+        b'e' => text(b" equal"),
+        b'l' => text(b" joined"),
+        _ => text(b" a lead-in"),
+    }
+}
+
+fn no(call: u8) {
+    match call {
+        b'e' => text(b" not equal"),
+        b'l' => text(b" apart"),
+        _ => text(b" no lead-in"),
+    }
+}
+
+fn verdict(call: u8, number: u8) {
+    match number {
+        0 => no(call),
+        1 => yes(call),
+        _ => text(b" joined, but the lead-in is none"),
+    }
+}
+
+// The answer to a call.
+fn answer(call: u8, answer: Word) {
+    if at(&answer, 63) != 0 {
+        refusal(answer);
+    } else if call == b'n' || call == b'c' {
+        word(answer);
+    } else {
+        verdict(call, at(&answer, 0));
+    }
+}
+
+fn line(name: &[u8], call: u8, ours: Word, theirs: Word) {
+    text(name);
+    byte(b':');
+    answer(call, ours);
+    text(b" |");
+    answer(call, theirs);
+    byte(b'\n');
+}
+
+// Two answers to a call, side by side behind the name of the case, if it has one; are they the same.
+pub fn answers(name: &[u8], call: u8, ours: Word, theirs: Word) -> bool {
+    if name.len() != 0 {
+        line(name, call, ours, theirs);
+    }
+    same(ours, theirs)
+}
+
+// How many of so many agree.
+pub fn count(agree: usize, of: usize, what: &[u8]) {
+    number(agree);
+    text(b" of ");
+    number(of);
+    text(what);
+}

@@ -1,0 +1,31 @@
+// What the solver answers.
+
+use cases_solver::Word;
+use cases_solver::blank;
+use cases_solver::core;
+use cases_solver::joined;
+use cases_solver::leads;
+use cases_solver::normal_form;
+use cases_solver::or;
+use cases_solver::refusal_of_form;
+use cases_solver::refusal_of_loops;
+use cases_solver::same;
+use cases_solver::with;
+
+pub fn verdict(number: u8) -> Word {
+    with(blank(), 0, number)
+}
+
+// The answer to a call by its letter, in an area of so many bytes.
+pub fn solved(call: u8, c: &[u8], v: &[u8], w: &[u8], u: &[u8], room: usize) -> Word {
+    match call {
+        b'n' => or(refusal_of_form(c, v, room), normal_form(c, v)),
+        b'c' => or(refusal_of_form(c, v, room), core(c, v)),
+        b'e' => verdict(same(normal_form(c, v), normal_form(c, w)) as u8),
+        b'l' => or(
+            refusal_of_loops(c, v, w, room),
+            verdict(joined(c, v, w) as u8),
+        ),
+        _ => verdict(leads(c, v, w, u, u.len()) as u8),
+    }
+}
