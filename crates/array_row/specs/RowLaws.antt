@@ -2,12 +2,12 @@
 use Prim.Native.Nat.{ℕ, suc, _+_, _-_, _<_, _≤_}
 use native.Mathlib.Omega.{arith}
 use native.Mathlib.Numerals.{add-one}
-use mathlib.Core.Path.{_≡_, refl, sym, _∙_, ap, subst}
+use mathlib.Core.Path.{_≡_, sym, _∙_, ap, subst}
 use mathlib.Core.List.{List, [], _∷_, _++_, append-assoc, append-nil}
 use lib.ListN.{length, getD, take, drop, set, length-append, length-drop, take-append-drop}
 use lib.Seq.{length-take-le, take-suc, drop-cons, set-at, take-at, take-all, drop-length, append-snoc}
-use Rattle.spec.specs.Byte.{undone}
-use Rattle.spec.specs.Letters.{undoneBefore}
+use Rattle.theory_words.specs.GroupLaws.{undo-onto, undo-length}
+use Rattle.spec.specs.Byte.{undone, undoOf}
 use Rattle.array_row.specs.Row.{Appended}
 
 pub appended-start : (row : List ℕ) (at : ℕ) → Appended row at [] row at
@@ -50,18 +50,6 @@ module _ {before after word : List ℕ} {at end : ℕ} (a : Appended before at w
       ap (take end) (a .bytes)
       ∙ take-at (take at before ++ word) (drop end before) end (head-length (omega (arith, a .ends)))
 
--- undoing, as lists
-
-pub undone-onto : (u x y : List ℕ) → undoneBefore u (x ++ y) ≡ undoneBefore u x ++ y
-unfolding undoneBefore
-undone-onto [] x y = refl
-undone-onto (b ∷ u) x y = undone-onto u (undone b ∷ x) y
-
-pub undone-length : (u v : List ℕ) → length (undoneBefore u v) ≡ length u + length v
-unfolding undoneBefore
-undone-length [] v = omega arith
-undone-length (b ∷ u) v = omega (arith, undone-length u (undone b ∷ v))
-
 -- the loop that copies: the first i bytes of the word are appended
 
 pub record Copied (before : List ℕ) (at : ℕ) (word row : List ℕ) (i : ℕ) : Type 0 where
@@ -102,10 +90,9 @@ module _ {before word row : List ℕ} {at i : ℕ} (room : at + length word ≤ 
 
 pub record Undoing (before : List ℕ) (at : ℕ) (word row : List ℕ) (i n : ℕ) : Type 0 where
   pub within : i ≤ length word
-  pub appended : Appended before at (undoneBefore (drop i word) []) row (at + n)
+  pub appended : Appended before at (undoOf (drop i word)) row (at + n)
 
 pub undoing-start : (row : List ℕ) (at : ℕ) (word : List ℕ) → Undoing row at word row (length word) 0
-unfolding undoneBefore
 undoing-start row at word = record {
   within = omega arith;
   appended = rw (drop-length word) (appended-at (omega arith) (appended-start row at));
@@ -114,13 +101,12 @@ undoing-start row at word = record {
 module _ {before word row : List ℕ} {at i n : ℕ} (room : at + length word ≤ length before)
     (c : Undoing before at word row i n) where
   pub undoing-fits : n + i ≡ length word
-  undoing-fits = omega (arith, c .appended .ends, undone-length (drop i word) [], length-drop i word, c .within)
+  undoing-fits = omega (arith, c .appended .ends, undo-length undone (drop i word) [], length-drop i word, c .within)
 
   pub undoing-length : length row ≡ length before
   undoing-length = appended-length (c .appended) (omega (arith, undoing-fits))
 
   pub undoing-again : 0 < i → Undoing before at word (set row (at + n) (undone (getD word (i - 1) 0))) (i - 1) (n + 1)
-  unfolding undoneBefore
   undoing-again h =
       let b : ℕ = getD word (i - 1) 0 in
       let e : suc (i - 1) ≡ i = omega arith in
@@ -128,9 +114,9 @@ module _ {before word row : List ℕ} {at i n : ℕ} (room : at + length word �
       = drop-cons word (i - 1) 0 (omega (arith, c .within)) ∙ ap (λ (m : ℕ). b ∷ drop m word) e in
       record {
         within = omega (arith, c .within);
-        appended = rw (t, undone-onto (drop i word) [] (undone b ∷ []))
+        appended = rw (t, undo-onto undone (drop i word) (undone b ∷ []))
             (appended-at (omega arith) (appended-again (c .appended) (undone b) (omega (arith, undoing-fits))));
       }
 
-  pub undoing-whole : i ≤ 0 → Appended before at (undoneBefore word []) row (at + n)
+  pub undoing-whole : i ≤ 0 → Appended before at (undoOf word) row (at + n)
   undoing-whole h = let e : i ≡ 0 = omega arith in rw e at (c .appended)

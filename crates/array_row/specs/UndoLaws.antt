@@ -4,11 +4,12 @@ use native.Mathlib.Omega.{arith}
 use mathlib.Core.Path.{_≡_, refl, sym, _∙_, ap}
 use mathlib.Core.List.{List, [], _∷_, _++_, append-assoc}
 use lib.ListN.{length, getD, take, drop, set, length-append, length-drop, take-append-drop}
-use lib.Seq.{length-take-le, set-at, getD-at, take-at, drop-at, take-take, append-snoc}
-use Rattle.spec.specs.Byte.{undone}
-use Rattle.spec.specs.Letters.{undoneBefore}
+use lib.Seq.{length-take-le, set-at, getD-at, drop-at, take-take, append-snoc}
+use Rattle.theory_words.specs.Group.{undoBy}
+use Rattle.theory_words.specs.GroupLaws.{undo-onto, undo-append, undo-length}
+use Rattle.spec.specs.Byte.{undone, undoOf}
 use Rattle.array_row.specs.Row.{Undone}
-use Rattle.array_row.specs.RowLaws.{undone-onto, undone-length}
+use Rattle.array_row.specs.RowLaws.{appended-length, appended-take}
 
 -- the last byte of a word that is not empty
 
@@ -23,11 +24,6 @@ snoc a (b ∷ w) =
     let s = snoc b w in
     record { front = a ∷ s .front; last = s .last; whole = ap (λ (z : List ℕ). a ∷ z) (s .whole) }
 
-undone-snoc : (n : List ℕ) (b : ℕ) (t : List ℕ) → undoneBefore (n ++ b ∷ []) t ≡ undone b ∷ undoneBefore n t
-unfolding undoneBefore
-undone-snoc [] b t = refl
-undone-snoc (a ∷ n) b t = undone-snoc n b (undone a ∷ t)
-
 -- the row is `head`, what is left and `tail`, and what is left undone between them is the goal
 pub record Turning (goal row : List ℕ) (i j : ℕ) : Type 0 where
   pub head : List ℕ
@@ -36,10 +32,10 @@ pub record Turning (goal row : List ℕ) (i j : ℕ) : Type 0 where
   pub parts : row ≡ head ++ (mid ++ tail)
   pub first : length head ≡ i
   pub left : length mid ≡ j - i
-  pub rest : goal ≡ head ++ undoneBefore mid tail
+  pub rest : goal ≡ head ++ undoBy undone mid tail
 
 abbrev pub goalOf : List ℕ → ℕ → ℕ → List ℕ
-goalOf row from to = take from row ++ undoneBefore (drop from (take to row)) (drop to row)
+goalOf row from to = take from row ++ undoOf (drop from (take to row)) ++ drop to row
 
 pub turning-start : (row : List ℕ) (from to : ℕ) → from ≤ to → to ≤ length row
     → Turning (goalOf row from to) row from to
@@ -55,7 +51,10 @@ turning-start row from to h l = record {
       );
   first = length-take-le from row (omega arith);
   left = omega (arith, length-drop from (take to row), length-take-le to row l);
-  rest = refl;
+  rest =
+      let mid = drop from (take to row) in
+      append-assoc (take from row) (undoOf mid) (drop to row)
+      ∙ ap (λ (z : List ℕ). take from row ++ z) (sym (undo-onto undone mid (drop to row)));
 }
 
 -- the bytes at both places, exchanged and undone
@@ -85,9 +84,8 @@ exchange-one head tail a i k h e =
     (set-at head (undone a) tail (undone a) k n ∙ sym (append-snoc head (undone a) tail))
 
 turn : {goal row : List ℕ} {i j : ℕ} (head mid tail : List ℕ) → row ≡ head ++ (mid ++ tail) → length head ≡ i
-    → length mid ≡ j - i → goal ≡ head ++ undoneBefore mid tail → i < j
+    → length mid ≡ j - i → goal ≡ head ++ undoBy undone mid tail → i < j
     → Turning goal (exchanged row i (j - 1)) (i + 1) (j - 1)
-unfolding undoneBefore
 turn head [] tail p h l r lt = absurd (omega arith)
 turn {i = i} {j} head (a ∷ []) tail p h l r lt = record {
   head = head ++ undone a ∷ [];
@@ -115,8 +113,9 @@ turn {i = i} {j} head (a ∷ b ∷ w) tail p h l r lt =
       first = omega (arith, length-append head (undone (s .last) ∷ []));
       left = omega arith;
       rest = r ∙ ap (λ (z : List ℕ). head ++ z)
-          (ap (λ (z : List ℕ). undoneBefore z (undone a ∷ tail)) e ∙ undone-snoc f (s .last) (undone a ∷ tail))
-          ∙ sym (append-snoc head (undone (s .last)) (undoneBefore f (undone a ∷ tail)));
+          (ap (λ (z : List ℕ). undoBy undone z (undone a ∷ tail)) e
+          ∙ undo-append undone f (s .last ∷ []) (undone a ∷ tail))
+          ∙ sym (append-snoc head (undone (s .last)) (undoBy undone f (undone a ∷ tail)));
     }
 
 module _ {goal row : List ℕ} {i j : ℕ} (t : Turning goal row i j) where
@@ -138,51 +137,37 @@ module _ {goal row : List ℕ} {i j : ℕ} (t : Turning goal row i j) where
     ap length (t .rest),
     length-append (t .head) (t .mid ++ t .tail),
     length-append (t .mid) (t .tail),
-    length-append (t .head) (undoneBefore (t .mid) (t .tail)),
-    undone-length (t .mid) (t .tail),
+    length-append (t .head) (undoBy undone (t .mid) (t .tail)),
+    undo-length undone (t .mid) (t .tail),
   )
 
   pub turning-again : i < j → Turning goal (exchanged row i (j - 1)) (i + 1) (j - 1)
   turning-again h = turn (t .head) (t .mid) (t .tail) (t .parts) (t .first) (t .left) (t .rest) h
 
   pub turning-end : (i < j → ⊥) → row ≡ goal
-  unfolding undoneBefore
   turning-end h = go (t .mid) (t .left) (t .parts) (t .rest)
     where
       go : (mid : List ℕ) → length mid ≡ j - i → row ≡ t .head ++ (mid ++ t .tail)
-          → goal ≡ t .head ++ undoneBefore mid (t .tail) → row ≡ goal
+          → goal ≡ t .head ++ undoBy undone mid (t .tail) → row ≡ goal
       go [] l p r = p ∙ sym r
       go (a ∷ m) l p r = absurd (h (omega arith))
 
+module _ (row : List ℕ) (from to : ℕ) (h : from ≤ to) (l : to ≤ length row) where
+  pub goal-undone : Undone row from to (goalOf row from to)
+  goal-undone = record {
+    ends =
+        let mid = drop from (take to row) in
+        omega (arith, undo-length undone mid [], length-drop from (take to row), length-take-le to row l);
+    bytes = refl;
+  }
+
+  pub goal-length : length (goalOf row from to) ≡ length row
+  goal-length = appended-length goal-undone l
+
 -- what the row then begins with
-
-pub goal-length : (row : List ℕ) (from to : ℕ) → from ≤ to → to ≤ length row → length (goalOf row from to) ≡ length row
-goal-length row from to h l = omega (
-  arith,
-  length-append (take from row) (undoneBefore (drop from (take to row)) (drop to row)),
-  undone-length (drop from (take to row)) (drop to row),
-  length-take-le from row (omega arith),
-  length-drop from (take to row),
-  length-take-le to row l,
-  length-drop to row,
-)
-
-module _ {before after : List ℕ} {from to : ℕ} (u : Undone before from to after) where
-  pub undone-take : (z : List ℕ) → take to before ≡ take from before ++ z → from ≤ to → to ≤ length before
-      → take to after ≡ take from before ++ undoneBefore z []
-  undone-take z e h l =
-      let n : length (take from before) ≡ from = length-take-le from before (omega arith) in
-      let d : drop from (take to before) ≡ z = ap (drop from) e ∙ drop-at (take from before) z from n in
-      let p : after ≡ (take from before ++ undoneBefore z []) ++ drop to before
-      = u .bytes ∙ ap (λ (y : List ℕ). take from before ++ undoneBefore y (drop to before)) d
-      ∙ ap (λ (y : List ℕ). take from before ++ y) (undone-onto z [] (drop to before))
-      ∙ sym (append-assoc (take from before) (undoneBefore z []) (drop to before)) in
-      ap (take to) p ∙ take-at (take from before ++ undoneBefore z []) (drop to before) to (omega (
-        arith,
-        length-append (take from before) (undoneBefore z []),
-        undone-length z [],
-        ap length e,
-        length-append (take from before) z,
-        length-take-le to before l,
-        n,
-      ))
+pub undone-take : {before after : List ℕ} {from to : ℕ} → Undone before from to after → (z : List ℕ)
+    → take to before ≡ take from before ++ z → to ≤ length before → take to after ≡ take from before ++ undoOf z
+undone-take {before} {from = from} u z e l =
+    let n = length-take-le from before (omega (arith, u .ends)) in
+    let d = ap (drop from) e ∙ drop-at (take from before) z from n in
+    appended-take u l ∙ ap (λ (y : List ℕ). take from before ++ undoOf y) d

@@ -8,8 +8,7 @@ ghost use mathlib.Core.Bool.{true};
 ghost use mathlib.Core.Logic.{_↔_};
 ghost use lib.ListN.{length};
 ghost use Rattle.array_row.specs.Row.{Appended, Undone};
-ghost use Rattle.spec.specs.Letters.{undoneBefore};
-ghost use mathlib.Core.List.{[]};
+ghost use Rattle.spec.specs.Byte.{undoOf};
 
 // Copies the word behind the first `at` bytes of the row and gives the new end.
 pub fn append(row: &mut [u8], at: usize, word: &[u8]) -> usize
@@ -27,7 +26,7 @@ pub fn append(row: &mut [u8], at: usize, word: &[u8]) -> usize
 // As `append`, with the word backwards and each byte undone.
 pub fn append_undone(row: &mut [u8], at: usize, word: &[u8]) -> usize
     requires { ⌜ at + length (now word) ≤ length (now row) ⌝ }
-    ensures { λ r. ⌜ Appended (now (row .entry)) at (undoneBefore (now (word .entry)) []) (now (row .exit)) r ⌝ }
+    ensures { λ r. ⌜ Appended (now (row .entry)) at (undoOf (now (word .entry))) (now (row .exit)) r ⌝ }
 {
     let mut i = word.len();
     let mut n = 0;

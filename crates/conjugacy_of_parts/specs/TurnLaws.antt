@@ -3,14 +3,14 @@ use Prim.Native.Nat.{ℕ, _+_, _≤_}
 use native.Mathlib.Omega.{arith}
 use mathlib.Core.Path.{_≡_, refl, sym, _∙_, ap}
 use mathlib.Core.Bool.{Bool, true, false, _&&_}
-use mathlib.Core.List.{List, [], _∷_, _++_, append-assoc}
+use mathlib.Core.List.{List, [], _++_, append-assoc}
 use mathlib.Core.Option.{none, some}
 use lib.ListN.{length, take, length-append}
 use lib.Seq.{length-take-le, take-take, take-at}
 use lib.Dec.{eqb}
-use Rattle.theory_words.specs.Group.{undo}
-use Rattle.theory_words.specs.GroupLaws.{undo-append, undo-undo}
-use Rattle.spec.specs.Letters.{alphabet, undoneBefore}
+use Rattle.theory_words.specs.GroupLaws.{undo-append, undo-undo, undo-length}
+use Rattle.spec.specs.Byte.{undone, undoOf}
+use Rattle.spec.specs.Letters.{alphabet}
 use Rattle.theory_conjugacy.specs.Rotation.{rotation}
 use Rattle.theory_conjugacy.specs.RotationLaws.{rotation-some, rotation-rotated}
 use Rattle.theory_conjugacy.specs.Decision.{found?, rotated?}
@@ -20,19 +20,13 @@ use Rattle.conjugacy_rotation.specs.declared.Start.{Start}
 use Rattle.conjugacy_rotation.specs.declared.Start.the-variants.{At, Nowhere}
 use Rattle.conjugacy_rotation.specs.Told.{toldStart}
 use Rattle.array_row.specs.Row.{Appended, Undone}
-use Rattle.array_row.specs.RowLaws.{appended-take, appended-length, undone-length}
+use Rattle.array_row.specs.RowLaws.{appended-take, appended-length}
 use Rattle.array_row.specs.UndoLaws.{undone-take}
 use Rattle.conjugacy_of_parts.specs.Lead.{Turnable, Turned}
 
 and-false : (t : Bool) → (t && false) ≡ false
 and-false true = refl
 and-false false = refl
-
--- a plan backwards with each byte undone is the word undone
-pub undone-undo : (c u v : List ℕ) → undoneBefore u v ≡ undo (alphabet c) u v
-unfolding undoneBefore undo
-undone-undo c [] v = refl
-undone-undo c (b ∷ u) v = undone-undo c u _
 
 module _ (c ring other : List ℕ) {s : Start} (t : toldStart s ≡ rotation (alphabet c) ring other) where
   pub nowhere-apart : s ≡ Nowhere → rotated? (alphabet c) ring other ≡ false
@@ -53,33 +47,31 @@ module _ (c ring other : List ℕ) {i : ℕ} (f : rotation (alphabet c) ring oth
 
   -- the row's end holds it, undone, behind the letters cycled
   pub start-end : {row mid : List ℕ} {from at end : ℕ} → Turnable ring row from at
-      → Appended row at (undoneBefore (take i ring) []) mid end → end ≤ length row
-  start-end t a = omega (arith, t .room, a .ends, undone-length (take i ring) [], start-count, start-within)
+      → Appended row at (undoOf (take i ring)) mid end → end ≤ length row
+  start-end t a = omega (arith, t .room, a .ends, undo-length undone (take i ring) [], start-count, start-within)
 
   -- the ring up to there stands, undone, behind the letters cycled, and all of it is undone
   pub turned : {cycled row mid after : List ℕ} {from at end : ℕ}
-      → Appended row at (undoneBefore (take i ring) []) mid end → Undone mid from end after
+      → Appended row at (undoOf (take i ring)) mid end → Undone mid from end after
       → take at row ≡ take from row ++ cycled → from ≤ at → end ≤ length row
       → Turned c ring other cycled row from after end
-  unfolding place undo
+  unfolding place
   turned {cycled} {row} {mid} {after} {from} {at} {end} a b t o l =
       let p : place (rotation (alphabet c) ring other) ≡ i = ap place f in
       let r = take i ring in
-      let z : List ℕ = cycled ++ undoneBefore r [] in
+      let z : List ℕ = cycled ++ undoOf r in
       let e : at ≤ end = omega (arith, a .ends) in
       let n : length (take from row) ≡ from = length-take-le from row (omega arith) in
       let w : take end mid ≡ take from row ++ z = appended-take a l
-      ∙ ap (λ (y : List ℕ). y ++ undoneBefore r []) t ∙ append-assoc (take from row) cycled (undoneBefore r []) in
+      ∙ ap (λ (y : List ℕ). y ++ undoOf r) t ∙ append-assoc (take from row) cycled (undoOf r) in
       let k : take from mid ≡ take from row
       = sym (take-take from end mid (omega arith)) ∙ ap (take from) w ∙ take-at (take from row) z from n in
-      let d : undoneBefore z [] ≡ r ++ undo (alphabet c) cycled [] = undone-undo c z []
-      ∙ ap (λ (y : List ℕ). undo (alphabet c) (cycled ++ y) []) (undone-undo c r [])
-      ∙ undo-append (alphabet c) cycled (undo (alphabet c) r []) []
-      ∙ undo-undo (alphabet c) r [] (undo (alphabet c) cycled []) in
+      let d : undoOf z ≡ r ++ undoOf cycled
+      = undo-append undone cycled (undoOf r) [] ∙ undo-undo (alphabet c) r [] (undoOf cycled) in
       record {
         joined = rotated-test (alphabet c) ring other (rotation-rotated (alphabet c) ring other f);
-        written = rw p (undone-take b z (w ∙ ap (λ (y : List ℕ). y ++ z) (sym k)) (omega arith)
-            (omega (arith, appended-length a l)) ∙ ap (λ (y : List ℕ). y ++ undoneBefore z []) k
+        written = rw p (undone-take b z (w ∙ ap (λ (y : List ℕ). y ++ z) (sym k))
+            (omega (arith, appended-length a l)) ∙ ap (λ (y : List ℕ). y ++ undoOf z) k
             ∙ ap (λ (y : List ℕ). take from row ++ y) d);
         ends = rw p (omega (
           arith,
@@ -87,7 +79,7 @@ module _ (c ring other : List ℕ) {i : ℕ} (f : rotation (alphabet c) ring oth
           ap length w,
           length-take-le end mid (omega (arith, appended-length a l)),
           length-append (take from row) z,
-          undone-length z [],
+          undo-length undone z [],
           ap length d,
         ));
       }

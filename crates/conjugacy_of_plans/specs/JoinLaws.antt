@@ -6,23 +6,24 @@ use mathlib.Core.Path.{_≡_, refl, sym, _∙_, ap, subst, subst₂}
 use mathlib.Core.List.{List, [], _++_, append-assoc}
 use lib.ListN.{length, take, length-take}
 use Rattle.theory_words.specs.TraceLaws.{~-sym}
+use Rattle.theory_words.specs.GroupLaws.{undo-length}
 use Rattle.theory_conjugacy.specs.TurnLaws.{round-~}
 use Rattle.theory_conjugacy.specs.CoreLaws.{core-round}
 use Rattle.spec.specs.Catalogue.{commands}
 use Rattle.array_row.specs.Area.{StartsWith}
 use Rattle.array_row.specs.AreaLaws.{starts-length, starts-area}
-use Rattle.spec.specs.Letters.{letters, alphabet, undoneBefore, normalForm}
+use Rattle.spec.specs.Byte.{undone, undoOf}
+use Rattle.spec.specs.Letters.{letters, alphabet, normalForm}
 use Rattle.spec_laws.specs.LettersLaws.{letters-length, commands-passing}
 use Rattle.long_form.specs.Reducing.{Given}
 use Rattle.long_form.specs.Forming.{Formable}
 use Rattle.array_row.specs.Row.{Appended}
-use Rattle.array_row.specs.RowLaws.{appended-take, appended-length, undone-length}
+use Rattle.array_row.specs.RowLaws.{appended-take, appended-length}
 use Rattle.conjugacy_ring.specs.Ring.{Cyclic}
 use Rattle.conjugacy_of_parts.specs.declared.Outcome.{Outcome}
 use Rattle.conjugacy_of_parts.specs.declared.Outcome.the-variants.{Joined, Apart, Unsettled}
 use Rattle.conjugacy_of_parts.specs.Lead.{Stops}
 use Rattle.conjugacy_of_cores.specs.Pair.{Coreable, CoresLed, CoresLead}
-use Rattle.conjugacy_of_parts.specs.TurnLaws.{undone-undo}
 use Rattle.input_checks.specs.Passed.{Passed}
 use Rattle.conjugacy_of_plans.specs.VerdictLaws.{through, through-count}
 use Rattle.conjugacy_of_plans.specs.Stripped.{Stripped}
@@ -92,18 +93,18 @@ module _ {c : List ℕ} {conflicts : List (List ℕ)} {v w x g y h : List ℕ} {
 
   -- the word in the row
   pub join-word : {row row′ row″ row‴ : List ℕ} {at end last : ℕ} → Appended row 0 g row′ at → at ≤ length row
-      → CoresLed c x y row′ at row″ end → Appended row″ end (undoneBefore h []) row‴ last
+      → CoresLed c x y row′ at row″ end → Appended row″ end (undoOf h) row‴ last
       → end + length h ≤ length row″ → LeadWord c v w row‴ last
   join-word {row} {row′} {row″} {row‴} {at} {end} {last} a m j b f =
       let u = j .word in
       let t = through (alphabet c) g u h in
       let e : take last row‴ ≡ t =
-      appended-take b (omega (arith, b .ends, undone-length h []))
-      ∙ ap (λ (z : List ℕ). z ++ undoneBefore h []) (j .written ∙ ap (λ (z : List ℕ). z ++ u) (appended-take a m))
-      ∙ append-assoc g u (undoneBefore h []) ∙ ap (λ (z : List ℕ). g ++ (u ++ z)) (undone-undo c h []) in
+      appended-take b (omega (arith, b .ends, undo-length undone h []))
+      ∙ ap (λ (z : List ℕ). z ++ undoOf h) (j .written ∙ ap (λ (z : List ℕ). z ++ u) (appended-take a m))
+      ∙ append-assoc g u (undoOf h) in
       let s = through-short c k (j .passage) in
       let q : last ≡ length t =
-      omega (arith, a .ends, j .ends, b .ends, undone-length h [], through-count (alphabet c) g u h) in
+      omega (arith, a .ends, j .ends, b .ends, undo-length undone h [], through-count (alphabet c) g u h) in
       record {
         joined = through-joined c k (j .passage);
         count = q ∙ ap length (sym e);

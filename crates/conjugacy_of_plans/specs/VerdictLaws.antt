@@ -56,7 +56,7 @@ module _ (Γ : Alphabet) where
     arith,
     length-append g (u ++ undo Γ h []),
     length-append u (undo Γ h []),
-    undo-length Γ h [],
+    undo-length inv h [],
   )
 
   pub through-all : (P : Letter → Type 0) → ((a : Letter) → P a → P (inv a)) → (g u h : Word Γ)

@@ -2,7 +2,7 @@
 -- numbers, each with its undo and its command, and two letters are dependent if their commands conflict.
 use Prim.Native.Nat.{ℕ}
 use mathlib.Core.Bool.{Bool, true, false}
-use mathlib.Core.List.{List, [], _∷_, map, reverseAux}
+use mathlib.Core.List.{List, [], _∷_}
 use native.Mathlib.Decide.{ℕ-discrete}
 use lib.Dec.{eqb}
 use Rattle.theory_words.specs.Alphabet.{Alphabet}
@@ -37,7 +37,3 @@ alphabet c = record {
 -- the normal form of a plan: that of its word
 unfoldable pub normalForm : List ℕ → List ℕ → List ℕ
 normalForm c v = nf (alphabet c) (letters v)
-
--- a plan backwards with each byte undone, before v
-unfoldable pub undoneBefore : List ℕ → List ℕ → List ℕ
-undoneBefore u v = reverseAux (map undone u) v

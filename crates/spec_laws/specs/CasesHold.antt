@@ -5,7 +5,6 @@ use Rattle.spec.specs.Table.{firstOf}
 use Rattle.theory_words.specs.Reduce.{without-step, without, act-step, act, reduce}
 use Rattle.theory_words.specs.Normal.{meets-step, meets, firsts-step, firsts, least-step, least, rest, lex-step, lex}
 use Rattle.theory_words.specs.Normal.{nf}
-use Rattle.theory_words.specs.Group.{undo}
 use Rattle.theory_conjugacy.specs.Core as Core
 use Rattle.theory_conjugacy.specs.Core.{without-last, between, pair-step, pair, peels-step, peels, core}
 use Rattle.theory_conjugacy.specs.Part.{insert-step, insert, chosen-step, chosen, relabel-step, relabel, merge-step}
@@ -31,7 +30,7 @@ a & b = (a, b)
 pub starred-hold : StarredCases
 unfolding firstOf without-step without act-step act reduce meets-step meets firsts-step firsts least-step least rest
     lex-step lex nf ends follow stands conflict isCommand passes undone letters-step letters normalForm ℕ-discrete
-    Core.undone without-last between pair-step pair peels-step peels core undo coreForm insert-step insert chosen-step
+    Core.undone without-last between pair-step pair peels-step peels core coreForm insert-step insert chosen-step
     chosen relabel-step relabel merge-step Part.commands merge merge-row merge-all labels label apexes share part hit
     raise put split settled-step settled ring agree-step agree search-step search rotation alike? found? settled-ring
     part-ring rotated? parts-joined? cores-joined? joined? filter-step filter

@@ -2,13 +2,13 @@
 use Prim.Native.Nat.{ℕ}
 use mathlib.Core.Path.{_≡_, refl, sym, _∙_, ap, subst₂}
 use mathlib.Core.Bool.{Bool, true, false, not}
-use mathlib.Core.List.{List, [], _∷_, _++_, map, reverseAux, reverseAux-eq}
+use mathlib.Core.List.{List, [], _∷_, _++_}
 use mathlib.Core.Logic.{_↔_}
 use native.Mathlib.Omega.{arith}
 use borrow.Author.Tests.{eqb-true}
 use Rattle.theory_words.specs.Group as Group
-use Rattle.theory_words.specs.Group.{conj, undo}
-use Rattle.theory_words.specs.GroupLaws.{conj-of, conj-swap}
+use Rattle.theory_words.specs.Group.{conj, undoBy}
+use Rattle.theory_words.specs.GroupLaws.{undo-onto, conj-of, conj-swap}
 use Rattle.spec.specs.Catalogue.{commands}
 use Rattle.spec.specs.Plan.{isCommand, passes, Passing}
 use Rattle.spec.specs.Byte.{undone, undoOf}
@@ -35,18 +35,18 @@ module _ (c : List ℕ) where
 
   undone-passing : (u v : List ℕ) → Passing (commands c) u → Passing (commands c) v
       → Passing (commands c) (undoOf u ++ v)
-  undone-passing u v h k = rw reverseAux-eq at (onto u v h k)
+  undone-passing u v h k = rw (undo-onto undone u v) at (onto u v h k)
     where
       onto : (u v : List ℕ) → Passing (commands c) u → Passing (commands c) v
-          → Passing (commands c) (reverseAux (map undone u) v)
+          → Passing (commands c) (undoBy undone u v)
       onto [] v h k = k
       onto (b ∷ u) v h k = onto u (undone b ∷ v) (h .1) (passes-undone b (h .0), k)
 
   joined-letters : (u v : List ℕ) → letters (undoOf u ++ (v ++ u)) ≡ conj (alphabet c) (letters u) (letters v)
   unfolding conj
   joined-letters u v =
-      ap letters (sym (reverseAux-eq (map undone u) (v ++ u))) ∙ letters-undone c u (v ++ u)
-      ∙ ap (undo (alphabet c) (letters u)) (letters-append v u)
+      ap letters (sym (undo-onto undone u (v ++ u))) ∙ letters-undone u (v ++ u)
+      ∙ ap (undoBy undone (letters u)) (letters-append v u)
 
   pub joins-words : (v w u : List ℕ) → Passing (commands c) v → Passing (commands c) w → Passing (commands c) u
       → (Joins c v w u) ↔ (conj (alphabet c) (letters u) (letters v) ≈ letters w)
@@ -65,20 +65,20 @@ module _ (c : List ℕ) where
       go true e = ap (λ x. a ∷ x) e
       go false e = e
 
-  kept-undo : (u v : List ℕ) → kept c (undo (alphabet c) u v) ≡ undo (alphabet c) (kept c u) (kept c v)
-  unfolding kept letters-step undo
+  kept-undo : (u v : List ℕ) → kept c (undoBy undone u v) ≡ undoBy undone (kept c u) (kept c v)
+  unfolding kept letters-step
   kept-undo [] v = refl
   kept-undo (a ∷ u) v =
       kept-undo u (undone a ∷ v) ∙ rw (isCommand-undone (commands c) a) (go (isCommand (commands c) a))
     where
-      go : (t : Bool) → undo (alphabet c) (kept c u) (letters-step (not t) (undone a) (kept c v))
-          ≡ undo (alphabet c) (letters-step (not t) a (kept c u)) (kept c v)
+      go : (t : Bool) → undoBy undone (kept c u) (letters-step (not t) (undone a) (kept c v))
+          ≡ undoBy undone (letters-step (not t) a (kept c u)) (kept c v)
       go true = refl
       go false = refl
 
   kept-conj : (u v : List ℕ) → kept c (conj (alphabet c) u v) ≡ conj (alphabet c) (kept c u) (kept c v)
   unfolding conj
-  kept-conj u v = kept-undo u (v ++ u) ∙ ap (undo (alphabet c) (kept c u)) (kept-append v u)
+  kept-conj u v = kept-undo u (v ++ u) ∙ ap (undoBy undone (kept c u)) (kept-append v u)
 
   -- a conjugating word of any letters gives a lead-in: its letters that are no commands are left out
   pub words-join : (v w u : List ℕ) → Passing (commands c) v → Passing (commands c) w

@@ -2,19 +2,19 @@
 use Prim.Native.Nat.{ℕ, suc, _≤_}
 use mathlib.Core.Path.{_≡_, refl, sym, _∙_, ap}
 use mathlib.Core.Bool.{Bool, true, false}
-use mathlib.Core.List.{List, [], _∷_, _++_, map, reverseAux}
+use mathlib.Core.List.{List, [], _∷_, _++_}
 use native.Mathlib.Omega.{arith}
 use lib.ListN.{length}
 use lib.Dec.{eqb}
 use borrow.Author.Tests.{eqb-true, eq-eqb}
 use Rattle.theory_words.specs.BoolLaws.{true-same}
 use Rattle.theory_words.specs.All.{All, all-map}
-use Rattle.theory_words.specs.Group as Group
+use Rattle.theory_words.specs.Group.{undoBy}
 use Rattle.spec.specs.Plan.{isCommand, Passing}
 use Rattle.spec.specs.Byte.{undone, commandOf}
 use Rattle.spec.specs.AlphabetLaws.{undone-undone, undone-zero}
 use Rattle.spec_laws.specs.CommandLaws.{command-nonzero, command-passes, passes-command, command-range}
-use Rattle.spec.specs.Letters.{letters, letters-step, alphabet}
+use Rattle.spec.specs.Letters.{letters, letters-step}
 
 -- every letter is a command or undo
 abbrev pub Commands : ℕ → List ℕ → Type 0
@@ -79,13 +79,13 @@ filler-undone b = true-same _ _ (λ e. ap (λ a. eqb a 0) (sym (undone-undone b)
     turn a e = let z = eqb-true a 0 e in eq-eqb (undone a) 0 (undone-zero a (omega arith) ∙ z)
 
 -- the word of an undone plan is the undone word
-pub letters-undone : (c u v : List ℕ) → letters (reverseAux (map undone u) v) ≡ Group.undo (alphabet c) (letters u) (letters v)
-unfolding letters letters-step Group.undo
-letters-undone c [] v = refl
-letters-undone c (b ∷ u) v = letters-undone c u (undone b ∷ v) ∙ go (eqb b 0) (filler-undone b)
+pub letters-undone : (u v : List ℕ) → letters (undoBy undone u v) ≡ undoBy undone (letters u) (letters v)
+unfolding letters letters-step
+letters-undone [] v = refl
+letters-undone (b ∷ u) v = letters-undone u (undone b ∷ v) ∙ go (eqb b 0) (filler-undone b)
   where
     go : (t : Bool) → eqb (undone b) 0 ≡ t
-        → Group.undo (alphabet c) (letters u) (letters (undone b ∷ v))
-        ≡ Group.undo (alphabet c) (letters-step t b (letters u)) (letters v)
-    go true e = ap (Group.undo (alphabet c) (letters u)) (letters-filler (undone b) v e)
-    go false e = ap (Group.undo (alphabet c) (letters u)) (letters-letter (undone b) v e)
+        → undoBy undone (letters u) (letters (undone b ∷ v))
+        ≡ undoBy undone (letters-step t b (letters u)) (letters v)
+    go true e = ap (undoBy undone (letters u)) (letters-filler (undone b) v e)
+    go false e = ap (undoBy undone (letters u)) (letters-letter (undone b) v e)

@@ -78,7 +78,7 @@ module _ (Γ : Alphabet) where
   stuck u x y p q r e n =
       let z = undo Γ u [] in
       let k : Reduced Γ (z ++ (x ++ u)) = conj-reduced u x p (round-reduced Γ x q) n in
-      let d : (z ++ (x ++ u)) ≈ y = then (≈-of-≡ Γ (sym (undo-onto Γ u (x ++ u)))) e in
+      let d : (z ++ (x ++ u)) ≈ y = then (≈-of-≡ Γ (sym (undo-onto inv u (x ++ u)))) e in
       let f : y ~ (z ++ (x ++ u)) = ~-sym Γ (reduced-~ Γ (z ++ (x ++ u)) y k (round-reduced Γ y r) d) in
       let l : Reduced Γ (x ++ u ++ z) = r (x ++ u ++ z) (also (same f) (turns-rotate Γ z (x ++ u))) in
       let g : (x ++ u ++ z) ≈ x = then (≈-of-≡ Γ (append-assoc x u z))
@@ -88,7 +88,7 @@ module _ (Γ : Alphabet) where
         reduced-least Γ x (x ++ u ++ z) l (back g),
         length-append (x ++ u) z,
         length-append x u,
-        undo-length Γ u [],
+        undo-length inv u [],
       )
 
   -- a letter's conjugation done before the rest
@@ -105,13 +105,12 @@ module _ (Γ : Alphabet) where
 
   -- and a is x undone, then a forward run
   end-undone : {a : Letter} {x : Word Γ} (s v : Word Γ) → x ~ (s ++ inv a ∷ []) → (a ∷ v) ≈ (undo Γ x [] ++ (s ++ v))
-  unfolding undo
   end-undone {a} {x} s v e =
       let d : undo Γ (s ++ inv a ∷ []) (s ++ v) ≡ a ∷ undo Γ s (s ++ v) =
-      undo-append Γ s (inv a ∷ []) (s ++ v) ∙ ap (λ (b : Letter). b ∷ undo Γ s (s ++ v)) (Γ .inv-inv a) in
+      undo-append inv s (inv a ∷ []) (s ++ v) ∙ ap (λ (b : Letter). b ∷ undo Γ s (s ++ v)) (Γ .inv-inv a) in
       let f : undo Γ x (s ++ v) ≈ (a ∷ v) = then (≈-undo Γ (~→≈ Γ e) (s ++ v))
       (then (≈-of-≡ Γ d) (keep (undo-cancel Γ s v))) in
-      then (back f) (≈-of-≡ Γ (undo-onto Γ x (s ++ v)))
+      then (back f) (≈-of-≡ Γ (undo-onto inv x (s ++ v)))
 
   conj-over : (a : Letter) (x : Word Γ) → Apart Γ a x → conj Γ (a ∷ []) x ≈ x
   conj-over a x k = conj-of Γ (a ∷ []) x

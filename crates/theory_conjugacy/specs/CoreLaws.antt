@@ -160,11 +160,10 @@ module _ (Γ : Alphabet) where
   cores-core v e k = cores-unique e k (core-cores v)
 
   regroup : (g z : Word Γ) (c : Letter) → (g ++ (z ++ undo Γ g [])) ++ inv c ∷ [] ≡ g ++ (z ++ undo Γ g (inv c ∷ []))
-  regroup g z c = rw (undo-onto Γ g (inv c ∷ []), append-assoc g, append-assoc z)
+  regroup g z c = rw (undo-onto inv g (inv c ∷ []), append-assoc g, append-assoc z)
 
   -- the word is the letters taken off, the core, and the letters undone
   pub cores-product : {x g z : Word Γ} → Cores Γ x g z → x ~ (g ++ (z ++ undo Γ g []))
-  unfolding undo
   cores-product {z = z} (bare t e) = next e (~-of-≡ Γ (sym (append-nil z)))
   cores-product (peel {c = c} {s = s} {g = g} {z = z} p e k) =
       next (pick-front Γ p) (cons (next e (next (~-after Γ (cores-product k) (inv c ∷ [])) (~-of-≡ Γ (regroup g z c)))))

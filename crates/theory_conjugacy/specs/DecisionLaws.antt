@@ -166,7 +166,7 @@ module _ (Γ : Alphabet) where
       let f = bound n (length (lead Γ v)) (length (lead Γ w)) (length x) (length v) (length w) (length u)
       (λ d. omega (arith, none-occur n v h d, none-occur n w k d))
       (omega (arith, core-length Γ v, reduce-length Γ v)) (omega (arith, core-length Γ w, reduce-length Γ w)) c in
-      omega (arith, f, length-append (lead Γ v) (u ++ g), length-append u g, undo-length Γ (lead Γ w) [])
+      omega (arith, f, length-append (lead Γ v) (u ++ g), length-append u g, undo-length inv (lead Γ w) [])
 
   -- for any two words: a conjugating word of that length, or none of any length
   pub joining : (n : ℕ) (v w : Word Γ) → All (λ a. (1 ≤ cmd a) × (cmd a ≤ n)) v

@@ -156,7 +156,7 @@ module _ (Γ : Alphabet) where
         length-append x (take i r ++ undo Γ y []),
         length-append (take i r) (undo Γ y []),
         length-take i r,
-        undo-length Γ y [],
+        undo-length inv y [],
         place-below r (settled-ring Γ m q),
         ring-length a,
         occurs-length Γ (a .apex),
@@ -175,7 +175,6 @@ module _ (Γ : Alphabet) where
 
   pub all-undo : (P : Letter → Type 0) → ((a : Letter) → P a → P (inv a)) → (u v : Word Γ) → All P u → All P v
       → All P (undo Γ u v)
-  unfolding undo
   all-undo P f [] v h k = k
   all-undo P f (a ∷ u) v h k = all-undo P f u (inv a ∷ v) (h .1) (f a (h .0), k)
 

@@ -66,7 +66,6 @@ module _ (Γ : Alphabet) where
       meet c (s, p) f = t a z here (subst (λ (b : Letter). First Γ b (undo Γ z [])) (pick-one Γ p .0) f)
 
   tight-turn : {a : Letter} {z : Word Γ} → Reduced Γ (a ∷ z) → Tight Γ (a ∷ z) → Tight Γ (z ++ a ∷ [])
-  unfolding undo
   tight-turn {a} {z} r t c s p f = go (pick-split Γ z (a ∷ []) p)
     where
       -- c and its undo stand behind and before a
@@ -74,10 +73,10 @@ module _ (Γ : Alphabet) where
       inner s q = not-first-cons Γ
           (λ e. r .0 (s, subst (λ (b : Letter). Pick Γ b z s) e q))
           (λ d k. t c (a ∷ s) (there (sym (dep-inv-right Γ c a) ∙ d) q)
-          (rw (undo-onto Γ s (inv a ∷ [])) (k .0 ++ inv a ∷ [], pick-after Γ (k .1) (inv a ∷ []))))
+          (rw (undo-onto inv s (inv a ∷ [])) (k .0 ++ inv a ∷ [], pick-after Γ (k .1) (inv a ∷ []))))
 
       go : Splits Γ c z (a ∷ []) s → ⊥
-      go (early s q e) = inner s q (rw (e, undo-append Γ s (a ∷ []) []) at f)
+      go (early s q e) = inner s q (rw (e, undo-append inv s (a ∷ []) []) at f)
       go (late s k q e) =
           let g : First Γ c (undo Γ z []) = rw (e, pick-one Γ q .1, append-nil z) at f in
           t a z here (subst (λ (b : Letter). First Γ b (undo Γ z [])) (pick-one Γ q .0) g)

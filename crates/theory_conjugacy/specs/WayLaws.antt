@@ -60,7 +60,7 @@ module _ (Γ : Alphabet) where
   pub centre-append : {x m n : Word Γ} → Centre Γ x m → Centre Γ x n → Centre Γ x (m ++ n)
   centre-append nothing l = l
   centre-append {x} {n = n} (itself {m = m} k) l = rw (append-assoc x m n) (itself (centre-append k l))
-  centre-append {x} {n = n} (minus {m = m} k) l = rw (← undo-after Γ x m n) (minus (centre-append k l))
+  centre-append {x} {n = n} (minus {m = m} k) l = rw (← undo-after inv x m n) (minus (centre-append k l))
   centre-append (free a k) l = free a (centre-append k l)
 
   pub centre-commutes : {x m : Word Γ} → Centre Γ x m → (x ++ m) ≈ (m ++ x)
@@ -70,7 +70,7 @@ module _ (Γ : Alphabet) where
   centre-commutes {x} (minus {m = m} k) =
       then (cancel-undo Γ x m)
       (then (back (undo-cancel Γ x m))
-      (then (≈-undo-onto Γ x (centre-commutes k)) (≈-of-≡ Γ (undo-after Γ x m x))))
+      (then (≈-undo-onto Γ x (centre-commutes k)) (≈-of-≡ Γ (undo-after inv x m x))))
   centre-commutes {x} (free {a = a} {m = m} i k) = then (back (~→≈ Γ (apart-pass Γ a x i m))) (keep (centre-commutes k))
 
   pub centre-conj : {x m : Word Γ} → Centre Γ x m → conj Γ m x ≈ x
@@ -91,7 +91,6 @@ module _ (Γ : Alphabet) where
   -- over one cycling
   centre-turn : {a : Letter} {x r n : Word Γ} → Pick Γ a x r → Centre Γ (r ++ a ∷ []) n
       → (m : Word Γ) × Centre Γ x m × ((a ∷ n) ≈ (m ++ a ∷ []))
-  unfolding undo
   centre-turn {a} p nothing = ([], nothing, ≈-refl Γ _)
   centre-turn {a} {x} {r} p (itself {m = n} k) =
       let (m, l, e) = centre-turn p k in
@@ -102,8 +101,8 @@ module _ (Γ : Alphabet) where
       let (m, l, e) = centre-turn p k in
       let d : undo Γ x (a ∷ n) ≈ undo Γ r n =
       then (≈-undo Γ (~→≈ Γ (pick-front Γ p)) (a ∷ n)) (≈-undo-onto Γ r (drop-back Γ a n)) in
-      let f : (a ∷ undo Γ (r ++ a ∷ []) n) ≈ undo Γ r n = then (keep (≈-of-≡ Γ (undo-append Γ r (a ∷ []) n))) drop in
-      (undo Γ x m, minus l, then f (then (back d) (then (≈-undo-onto Γ x e) (≈-of-≡ Γ (undo-after Γ x m (a ∷ []))))))
+      let f : (a ∷ undo Γ (r ++ a ∷ []) n) ≈ undo Γ r n = then (keep (≈-of-≡ Γ (undo-append inv r (a ∷ []) n))) drop in
+      (undo Γ x m, minus l, then f (then (back d) (then (≈-undo-onto Γ x e) (≈-of-≡ Γ (undo-after inv x m (a ∷ []))))))
   centre-turn {a} {x} {r} p (free {a = b} {m = n} i k) =
       let (m, l, e) = centre-turn p k in
       let (o, q) = apart-factors Γ b r (a ∷ []) i in

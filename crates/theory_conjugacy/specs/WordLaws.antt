@@ -36,8 +36,7 @@ module _ (Γ : Alphabet) where
       (subst (λ (x : Word Γ). undo Γ (undo Γ v []) [] ~ x) (undo-twice Γ w) (~-undo Γ e []))
 
   pub undo-last : (v : Word Γ) (a : Letter) → undo Γ (v ++ a ∷ []) [] ≡ inv a ∷ undo Γ v []
-  unfolding undo
-  undo-last v a = undo-append Γ v (a ∷ []) []
+  undo-last v a = undo-append inv v (a ∷ []) []
 
   pub last-cancel : (v w : Word Γ) (a : Letter) → (v ++ a ∷ []) ~ (w ++ a ∷ []) → v ~ w
   last-cancel v w a e =

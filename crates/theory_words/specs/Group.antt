@@ -2,9 +2,13 @@
 -- beside its undo put in or taken out. Undoing a word, and conjugating by one.
 use mathlib.Core.Path.{_≡_}
 use mathlib.Core.Bool.{false}
-use mathlib.Core.List.{[], _∷_, _++_, map, reverseAux}
+use mathlib.Core.List.{List, [], _∷_, _++_, map, reverseAux}
 use Rattle.theory_words.specs.Alphabet.{Alphabet, Word, dep}
 use Rattle.theory_words.specs.Trace.{First}
+
+-- u backwards with each element undone by f, then v
+abbrev pub undoBy : {A : Type 0} → (A → A) → List A → List A → List A
+undoBy f u v = reverseAux (map f u) v
 
 module _ (Γ : Alphabet) where
   open Alphabet Γ using (Letter, inv)
@@ -24,8 +28,8 @@ module _ (Γ : Alphabet) where
   Reduced (a ∷ w) = (¬ First Γ (inv a) w) × Reduced w
 
   -- u undone, backwards, then v
-  unfoldable pub undo : Word Γ → Word Γ → Word Γ
-  undo u v = reverseAux (map inv u) v
+  abbrev pub undo : Word Γ → Word Γ → Word Γ
+  undo = undoBy inv
 
   -- u undone, then x, then u
   unfoldable pub conj : Word Γ → Word Γ → Word Γ

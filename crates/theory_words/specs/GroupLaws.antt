@@ -1,15 +1,32 @@
 -- Laws of equality in the group, of undoing a word and of conjugating by one.
 use Prim.Native.Nat.{_+_}
 use mathlib.Core.Path.{_≡_, refl, sym, _∙_, ap, subst}
-use mathlib.Core.List.{[], _∷_, _++_, reverse, reverseAux, append-nil, append-assoc}
+use mathlib.Core.List.{List, [], _∷_, _++_, reverse, reverseAux, append-nil, append-assoc}
 use lib.ListN.{length}
 use native.Mathlib.Omega.{arith}
 use Rattle.theory_words.specs.Alphabet.{Alphabet, Word, dep}
 use Rattle.theory_words.specs.Trace as Trace
 use Rattle.theory_words.specs.Trace.{Pick, here, First, done, cons, swap, next}
 use Rattle.theory_words.specs.Group as Group
-use Rattle.theory_words.specs.Group.{undo, conj, empty, keep, trade, drop, then, back}
+use Rattle.theory_words.specs.Group.{undoBy, undo, conj, empty, keep, trade, drop, then, back}
 use Rattle.theory_words.specs.TraceLaws.{dep-sym, ~-refl, ~-sym, pick-front, first-along, Apart}
+
+-- undoing, as lists
+module _ {A : Type 0} (f : A → A) where
+  pub undo-after : (u x y : List A) → undoBy f u (x ++ y) ≡ undoBy f u x ++ y
+  undo-after [] x y = refl
+  undo-after (a ∷ u) x y = undo-after u (f a ∷ x) y
+
+  pub undo-onto : (u v : List A) → undoBy f u v ≡ undoBy f u [] ++ v
+  undo-onto u v = undo-after u [] v
+
+  pub undo-append : (u v w : List A) → undoBy f (u ++ v) w ≡ undoBy f v (undoBy f u w)
+  undo-append [] v w = refl
+  undo-append (a ∷ u) v w = undo-append u v (f a ∷ w)
+
+  pub undo-length : (u v : List A) → length (undoBy f u v) ≡ length u + length v
+  undo-length [] v = omega arith
+  undo-length (a ∷ u) v = omega (arith, undo-length u (f a ∷ v))
 
 module _ (Γ : Alphabet) where
   open Alphabet Γ using (Letter, inv, cmd)
@@ -75,42 +92,20 @@ module _ (Γ : Alphabet) where
   pub ≈-reverse : {v w : Word Γ} → v ≈ w → reverse v ≈ reverse w
   ≈-reverse e = ≈-reverse-aux e []
 
-  -- undoing, as lists
-  pub undo-after : (u x y : Word Γ) → undo Γ u (x ++ y) ≡ undo Γ u x ++ y
-  unfolding undo
-  undo-after [] x y = refl
-  undo-after (a ∷ u) x y = undo-after u (inv a ∷ x) y
-
-  pub undo-onto : (u v : Word Γ) → undo Γ u v ≡ undo Γ u [] ++ v
-  undo-onto u v = undo-after u [] v
-
-  pub undo-append : (u v w : Word Γ) → undo Γ (u ++ v) w ≡ undo Γ v (undo Γ u w)
-  unfolding undo
-  undo-append [] v w = refl
-  undo-append (a ∷ u) v w = undo-append u v (inv a ∷ w)
-
+  -- undoing twice
   pub undo-undo : (u v w : Word Γ) → undo Γ (undo Γ u v) w ≡ undo Γ v (u ++ w)
-  unfolding undo
   undo-undo [] v w = refl
   undo-undo (a ∷ u) v w = undo-undo u (inv a ∷ v) w ∙ ap (λ (b : Letter). undo Γ v (b ∷ u ++ w)) (Γ .inv-inv a)
 
   pub undo-twice : (u : Word Γ) → undo Γ (undo Γ u []) [] ≡ u
-  unfolding undo
   undo-twice u = undo-undo u [] [] ∙ append-nil u
-
-  pub undo-length : (u v : Word Γ) → length (undo Γ u v) ≡ length u + length v
-  unfolding undo
-  undo-length [] v = omega arith
-  undo-length (a ∷ u) v = omega (arith, undo-length u (inv a ∷ v))
 
   -- undoing respects swaps and equality, on both sides
   pub ~-undo-onto : (u : Word Γ) {v w : Word Γ} → v ~ w → undo Γ u v ~ undo Γ u w
-  unfolding undo
   ~-undo-onto [] e = e
   ~-undo-onto (a ∷ u) e = ~-undo-onto u (cons e)
 
   pub ~-undo : {v w : Word Γ} → v ~ w → (x : Word Γ) → undo Γ v x ~ undo Γ w x
-  unfolding undo
   ~-undo done x = ~-refl Γ x
   ~-undo (cons {a = a} e) x = ~-undo e (inv a ∷ x)
   ~-undo (swap {a = a} {b = b} {w = w} d) x =
@@ -118,12 +113,10 @@ module _ (Γ : Alphabet) where
   ~-undo (next e f) x = next (~-undo e x) (~-undo f x)
 
   pub ≈-undo-onto : (u : Word Γ) {v w : Word Γ} → v ≈ w → undo Γ u v ≈ undo Γ u w
-  unfolding undo
   ≈-undo-onto [] e = e
   ≈-undo-onto (a ∷ u) e = ≈-undo-onto u (keep e)
 
   pub ≈-undo : {v w : Word Γ} → v ≈ w → (x : Word Γ) → undo Γ v x ≈ undo Γ w x
-  unfolding undo
   ≈-undo empty x = ≈-refl x
   ≈-undo (keep {a = a} e) x = ≈-undo e (inv a ∷ x)
   ≈-undo (trade {a = a} {b = b} {w = w} d) x =
@@ -134,12 +127,10 @@ module _ (Γ : Alphabet) where
 
   -- a word and the same undone cancel
   pub undo-cancel : (u v : Word Γ) → undo Γ u (u ++ v) ≈ v
-  unfolding undo
   undo-cancel [] v = ≈-refl v
   undo-cancel (a ∷ u) v = then (≈-undo-onto u (drop-back a (u ++ v))) (undo-cancel u v)
 
   pub cancel-undo : (u v : Word Γ) → (u ++ undo Γ u v) ≈ v
-  unfolding undo
   cancel-undo [] v = ≈-refl v
   cancel-undo (a ∷ u) v = then (keep (cancel-undo u (inv a ∷ v))) drop
 
@@ -147,19 +138,19 @@ module _ (Γ : Alphabet) where
   undo-right u = cancel-undo u []
 
   pub undo-left : (u : Word Γ) → (undo Γ u [] ++ u) ≈ []
-  undo-left u = subst (λ (x : Word Γ). x ≈ []) (undo-onto u u)
+  undo-left u = subst (λ (x : Word Γ). x ≈ []) (undo-onto inv u u)
       (subst (λ (x : Word Γ). undo Γ u x ≈ []) (append-nil u) (undo-cancel u []))
 
   -- conjugating
   pub conj-nil : (x : Word Γ) → conj Γ [] x ≡ x
-  unfolding undo conj
+  unfolding conj
   conj-nil x = append-nil x
 
   pub conj-append : (u v x : Word Γ) → conj Γ (u ++ v) x ≡ conj Γ v (conj Γ u x)
   unfolding conj
   conj-append u v x =
-      undo-append u v (x ++ (u ++ v))
-      ∙ ap (undo Γ v) (ap (undo Γ u) (sym (append-assoc x u v)) ∙ undo-after u (x ++ u) v)
+      undo-append inv u v (x ++ (u ++ v))
+      ∙ ap (undo Γ v) (ap (undo Γ u) (sym (append-assoc x u v)) ∙ undo-after inv u (x ++ u) v)
 
   pub ≈-conj : (u : Word Γ) {x y : Word Γ} → x ≈ y → conj Γ u x ≈ conj Γ u y
   unfolding conj
@@ -195,20 +186,17 @@ module _ (Γ : Alphabet) where
       (≈-of-≡ (append-assoc u (conj Γ u x) (conj Γ u y)))))))
 
   pub apart-undo : (c : Letter) (u v : Word Γ) → Apart Γ c u → Apart Γ c v → Apart Γ c (undo Γ u v)
-  unfolding undo
   apart-undo c [] v k l = l
   apart-undo c (b ∷ u) v k l = apart-undo c u (inv b ∷ v) (k .1) (dep-inv-right c b ∙ k .0, l)
 
   -- inv c can come last in p if c can come first in p undone, and the other way round
   pub pick-undo : {c : Letter} (p : Word Γ) {r : Word Γ} → Pick Γ c (undo Γ p []) r
       → p ~ (undo Γ r [] ++ inv c ∷ [])
-  unfolding undo
   pick-undo {c} p {r} o =
       subst (λ (x : Word Γ). x ~ (undo Γ r [] ++ inv c ∷ [])) (undo-twice p)
-      (subst (λ (x : Word Γ). undo Γ (undo Γ p []) [] ~ x) (undo-onto r (inv c ∷ [])) (~-undo (pick-front Γ o) []))
+      (subst (λ (x : Word Γ). undo Γ (undo Γ p []) [] ~ x) (undo-onto inv r (inv c ∷ [])) (~-undo (pick-front Γ o) []))
 
   pub first-undo : {c : Letter} {p : Word Γ} (r : Word Γ) → p ~ (r ++ inv c ∷ []) → First Γ c (undo Γ p [])
-  unfolding undo
   first-undo {c} {p} r e = first-along Γ (~-sym Γ (~-undo e []))
-      (subst (First Γ c) (sym (undo-append r (inv c ∷ []) []))
+      (subst (First Γ c) (sym (undo-append inv r (inv c ∷ []) []))
       (subst (λ (b : Letter). First Γ c (b ∷ undo Γ r [])) (sym (Γ .inv-inv c)) (undo Γ r [], here)))

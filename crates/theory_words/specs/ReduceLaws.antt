@@ -267,17 +267,16 @@ module _ (Γ : Alphabet) where
 
   pub reduced-undo : (w : Word Γ) → Reduced Γ w → Reduced Γ (undo Γ w [])
   reduced-undo w r = reduced-mirror (λ x. undo Γ x []) (λ x y e. ≈-undo Γ e [])
-      (λ x. omega (arith, undo-length Γ x [])) (undo-twice Γ) w r
+      (λ x. omega (arith, undo-length inv x [])) (undo-twice Γ) w r
 
   -- a product is reduced if its factors are and no letter cancels where they meet
   pub reduced-append : (p q : Word Γ) → Reduced Γ p → Reduced Γ q
       → ((c : Letter) → First Γ c q → ¬ First Γ c (undo Γ p [])) → Reduced Γ (p ++ q)
-  unfolding undo
   reduced-append [] q r s n = s
   reduced-append (a ∷ p) q r s n = ((λ f. met (pick-split Γ p q (f .1))), reduced-append p q (r .1) s below)
     where
       ends : undo Γ (a ∷ p) [] ≡ undo Γ p [] ++ inv a ∷ []
-      ends = undo-onto Γ p (inv a ∷ [])
+      ends = undo-onto inv p (inv a ∷ [])
 
       below : (c : Letter) → First Γ c q → ¬ First Γ c (undo Γ p [])
       below c f g = n c f (subst (First Γ c) (sym ends) (g .0 ++ inv a ∷ [], pick-after Γ (g .1) (inv a ∷ [])))

@@ -6,7 +6,7 @@ use native.Mathlib.Omega.{arith}
 use lib.ListN.{length-set}
 use borrow.Author.Needs.{needs}
 use Rattle.array_row.specs.UndoLaws.{Turning, goalOf, turning-start, turning-fits, turning-length, turning-again}
-use Rattle.array_row.specs.UndoLaws.{turning-end, goal-length}
+use Rattle.array_row.specs.UndoLaws.{turning-end, goal-undone, goal-length}
 use Rattle.array_row.proofs.undo_between.Statement.{statement}
 use Rattle.array_row.proofs.undo_between.Tie as tie
 
@@ -55,7 +55,10 @@ same-length c =
     ∙ goal-length (s .args .row .now) (s .args .from) (s .args .to) (s .pre .0) (s .pre .1)
 
 returns : tie.Need-returns Inv-loop μ-loop
-returns c = record { bytes = turning-end (c .before .loop .inv) (λ l. omega arith) }
+returns c =
+    let s = c .before .before .before in
+    rw (turning-end (c .before .loop .inv) (λ l. omega arith))
+    (goal-undone (s .args .row .now) (s .args .from) (s .args .to) (s .pre .0) (s .pre .1))
 
 pub undo-between-spec : {M : Type 1} → statement M
 undo-between-spec =
