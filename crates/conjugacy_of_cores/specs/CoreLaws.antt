@@ -8,8 +8,9 @@ use borrow.Author.Tests.{not-true, not-false}
 use Rattle.spec.specs.Letters.{alphabet}
 use Rattle.theory_conjugacy.specs.Part.{commands, labels, label, apexes}
 use Rattle.theory_conjugacy.specs.PartLaws.{label-same}
-use Rattle.theory_conjugacy.specs.Decision.{alike?, parts-joined?, cores-joined?}
-use Rattle.theory_conjugacy.specs.DecisionLaws.{alike-true, alike-refl}
+use Rattle.theory_conjugacy.specs.Decision.{parts-joined?, cores-joined?}
+use Rattle.theory_words.specs.Alike.{alike?}
+use Rattle.theory_words.specs.AlikeLaws.{alike-true, alike-refl}
 use Rattle.theory_conjugacy.specs.LeadIn.{parts-lead}
 use Rattle.conjugacy_parts.specs.Flags.{Flags, LabelsOf}
 use Rattle.conjugacy_of_parts.specs.declared.Outcome.{Outcome}

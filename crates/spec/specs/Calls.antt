@@ -1,12 +1,13 @@
 -- The calls, as document 01 words them: for each the lines of the table that can refuse it, in their order, and then
 -- its answer and the final bytes of its area from what is handed in and the area as it was.
 use Prim.Native.Nat.{ℕ}
-use mathlib.Core.Bool.{Bool, true, false, _&&_}
+use mathlib.Core.Bool.{Bool}
 use mathlib.Core.List.{List, [], _∷_, _++_}
 use mathlib.Core.Option.{Option, none, some}
 use lib.ListN.{length, drop}
-use lib.Dec.{ltb, eqb}
+use lib.Dec.{ltb}
 use Rattle.spec.specs.Table.{Line, line, holds, firstLine, Answer, orElse}
+use Rattle.theory_words.specs.Alike.{alike?}
 use Rattle.theory_words.specs.Normal.{nf}
 use Rattle.theory_conjugacy.specs.Core.{core}
 use Rattle.spec.specs.Catalogue.{commands, catalogueLines}
@@ -56,12 +57,6 @@ abbrev pub equalLines : List ℕ → List ℕ → List ℕ → List (Option Line
 equalLines c v w =
     catalogueLines c ++ planLines 1 planLimit (commands c) v ++ planLines 2 planLimit (commands c) w
 
-abbrev pub sameBytes : List ℕ → List ℕ → Bool
-sameBytes [] [] = true
-sameBytes [] (b ∷ w) = false
-sameBytes (a ∷ v) [] = false
-sameBytes (a ∷ v) (b ∷ w) = eqb a b && sameBytes v w
-
 -- yes if the normal forms are the same
 abbrev pub equalAnswer : List ℕ → List ℕ → List ℕ → Answer Bool
-equalAnswer c v w = orElse (firstLine (equalLines c v w)) (sameBytes (normalForm c v) (normalForm c w))
+equalAnswer c v w = orElse (firstLine (equalLines c v w)) (alike? (normalForm c v) (normalForm c w))

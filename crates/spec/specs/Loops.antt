@@ -7,6 +7,7 @@ use mathlib.Core.List.{List, [], _∷_, _++_}
 use mathlib.Core.Option.{Option, none, some}
 use lib.ListN.{length, drop}
 use Rattle.spec.specs.Table.{Line, line, holds, firstLine, Answer, refused, given, orElse}
+use Rattle.theory_words.specs.Alike.{alike?}
 use Rattle.theory_conjugacy.specs.Core.{core}
 use Rattle.theory_conjugacy.specs.Part.{apexes, part}
 use Rattle.theory_conjugacy.specs.Settle.{split, settled}
@@ -15,7 +16,7 @@ use Rattle.spec.specs.Catalogue.{commands, catalogueLines}
 use Rattle.spec.specs.Plan.{planLines}
 use Rattle.spec.specs.Letters.{letters, alphabet, normalForm}
 use Rattle.spec.specs.Join.{Joins}
-use Rattle.spec.specs.Calls.{planLimit, areaLine, areaAfter, sameBytes}
+use Rattle.spec.specs.Calls.{planLimit, areaLine, areaAfter}
 use Rattle.spec.specs.Answers.{Checked}
 
 -- Loops
@@ -82,7 +83,7 @@ abbrev pub checkAnswer : List ℕ → List ℕ → List ℕ → List ℕ → Lis
 checkAnswer c v w u area0 area1 =
     orElse (firstLine (checkLines c v w u area0 area1))
     (record {
-      yes = sameBytes (normalForm c (v ++ u)) (normalForm c (u ++ w));
+      yes = alike? (normalForm c (v ++ u)) (normalForm c (u ++ w));
       vu = length (normalForm c (v ++ u));
       uw = length (normalForm c (u ++ w));
     })

@@ -1,18 +1,19 @@
 -- Laws of the calls' definitions: what an answer tells of the table, of an area, of the plans.
 use Prim.Native.Nat.{ℕ, _≤_}
-use mathlib.Core.Path.{_≡_, refl, ap₂}
+use mathlib.Core.Path.{_≡_, refl}
 use mathlib.Core.Bool.{Bool, true, false}
-use mathlib.Core.List.{List, [], _∷_}
+use mathlib.Core.List.{List}
 use mathlib.Core.Option.{Option, none, some}
 use mathlib.Core.Logic.{_↔_}
 use native.Mathlib.Omega.{arith}
-use lib.Dec.{ltb, eqb}
-use borrow.Author.Tests.{ltb-false, eqb-true, eq-eqb}
-use Rattle.theory_words.specs.BoolLaws.{and-both, true-same}
+use lib.Dec.{ltb}
+use borrow.Author.Tests.{ltb-false}
+use Rattle.theory_words.specs.BoolLaws.{true-same}
+use Rattle.theory_words.specs.Alike.{alike?}
+use Rattle.theory_words.specs.AlikeLaws.{alike-exact}
 use Rattle.spec.specs.Table.{Line, line, holds, refused, given, firstLine, orElse}
 use Rattle.spec_laws.specs.TableLaws.{none-holds}
 use Rattle.spec.specs.Catalogue.{commands, catalogueLines}
-use Rattle.spec.specs.Calls.{sameBytes}
 
 module _ {A : Type 0} where
   pub answer-refused : (o : Option Line) (a : A) (l : Line) → (orElse o a ≡ refused l) ↔ (o ≡ some l)
@@ -36,25 +37,7 @@ few-commands c e =
     let h = none-holds (catalogueLines c) .0 e in
     ltb-false 24 (commands c) (holds-none (ltb 24 (commands c)) (line 2 0 0) (h .1 .0))
 
-pub same-refl : (v : List ℕ) → sameBytes v v ≡ true
-same-refl [] = refl
-same-refl (a ∷ v) = rw (eq-eqb a a refl) (same-refl v)
-
-pub same-bytes : (v w : List ℕ) → (sameBytes v w ≡ true) ↔ (v ≡ w)
-same-bytes v w = (there v w, λ e. rw (← e) (same-refl v))
-  where
-    no : false ≡ true → ⊥
-    no e = let z : _≡_ {A = ℕ} 0 1 = cc in omega arith
-
-    there : (v w : List ℕ) → sameBytes v w ≡ true → v ≡ w
-    there [] [] e = refl
-    there [] (b ∷ w) e = absurd (no e)
-    there (a ∷ v) [] e = absurd (no e)
-    there (a ∷ v) (b ∷ w) e =
-        let h = and-both (eqb a b) (sameBytes v w) e in
-        ap₂ (λ x y. x ∷ y) (eqb-true a b (h .0)) (there v w (h .1))
-
 -- a comparison that is exact gives the answer that the definition computes
-pub compared : (b : Bool) (v w : List ℕ) → (b ≡ true) ↔ (v ≡ w) → b ≡ sameBytes v w
+pub compared : (b : Bool) (v w : List ℕ) → (b ≡ true) ↔ (v ≡ w) → b ≡ alike? v w
 compared b v w h =
-    true-same b (sameBytes v w) (λ e. same-bytes v w .1 (h .0 e)) (λ e. h .1 (same-bytes v w .0 e))
+    true-same b (alike? v w) (λ e. alike-exact v w .1 (h .0 e)) (λ e. h .1 (alike-exact v w .0 e))

@@ -2,6 +2,7 @@
 use mathlib.Core.Path.{refl}
 use native.Mathlib.Decide.{ℕ-discrete}
 use Rattle.spec.specs.Table.{firstOf}
+use Rattle.theory_words.specs.Alike.{alike?}
 use Rattle.theory_words.specs.Reduce.{without-step, without, act-step, act, reduce}
 use Rattle.theory_words.specs.Normal.{meets-step, meets, firsts-step, firsts, least-step, least, rest, lex-step, lex}
 use Rattle.theory_words.specs.Normal.{nf}
@@ -13,7 +14,7 @@ use Rattle.theory_conjugacy.specs.Part as Part
 use Rattle.theory_conjugacy.specs.Filter.{filter-step, filter}
 use Rattle.theory_conjugacy.specs.Settle.{hit, raise, put, split, settled-step, settled, ring}
 use Rattle.theory_conjugacy.specs.Rotation.{agree-step, agree, search-step, search, rotation}
-use Rattle.theory_conjugacy.specs.Decision.{alike?, found?, settled-ring, part-ring, rotated?, parts-joined?}
+use Rattle.theory_conjugacy.specs.Decision.{found?, settled-ring, part-ring, rotated?, parts-joined?}
 use Rattle.theory_conjugacy.specs.Decision.{cores-joined?, joined?}
 use Rattle.spec.specs.Catalogue.{ends, follow, stands}
 use Rattle.spec.specs.Conflict.{conflict}

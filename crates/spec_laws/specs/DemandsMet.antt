@@ -8,6 +8,8 @@ use mathlib.Core.Logic.{_↔_}
 use native.Mathlib.Omega.{arith}
 use lib.ListN.{length, take, drop}
 use lib.Seq.{take-at, take-append-seam, drop-append-seam}
+use Rattle.theory_words.specs.Alike.{alike?}
+use Rattle.theory_words.specs.AlikeLaws.{alike-exact}
 use Rattle.spec.specs.Table.{Line, refused, given, firstLine, orElse, NoneHolds, FirstHolds}
 use Rattle.spec_laws.specs.TableLaws.{none-holds, first-holds, none-left, none-right}
 use Rattle.spec.specs.Catalogue.{commands, catalogueLines}
@@ -18,13 +20,13 @@ use Rattle.spec_laws.specs.NormalFormLaws.{normal-equal, normal-least, n
 use Rattle.spec.specs.Step.{Equal}
 use Rattle.spec.specs.Demands.{Demand1, Demand2, Demand3, Shortest, Exact}
 use Rattle.spec.specs.Calls.{planLimit, areaLine, areaAfter, normalFormLines, normalFormAnswer, normalFormArea}
-use Rattle.spec.specs.Calls.{equalLines, equalAnswer, sameBytes}
+use Rattle.spec.specs.Calls.{equalLines, equalAnswer}
 use Rattle.spec.specs.Answers.{Checked}
 use Rattle.spec.specs.Loops.{Looped, apart, joined, LeadIn, checkLines, checkAnswer}
 use Rattle.spec_laws.specs.LoopLaws.{loops-pass, none-joins, none-some, check-pass}
 use Rattle.spec.specs.Join.{Joins}
 use Rattle.spec_laws.specs.JoinLaws.{joins-check}
-use Rattle.spec_laws.specs.CallLaws.{answer-refused, answer-given, few-commands, same-bytes}
+use Rattle.spec_laws.specs.CallLaws.{answer-refused, answer-given, few-commands}
 
 -- Demand 1
 
@@ -52,12 +54,12 @@ demand-1 = record { refused-exactly = refused-exactly; given-exactly = given-exa
 
 equal-demand : (c v w : List ℕ) (b : Bool) → equalAnswer c v w ≡ given b → (b ≡ true) ↔ Equal c v w
 equal-demand c v w b e = (
-  λ t. same .1 (same-bytes (normalForm c v) (normalForm c w) .0 (told .1 ∙ t)),
-  λ q. sym (told .1) ∙ same-bytes (normalForm c v) (normalForm c w) .1 (same .0 q),
+  λ t. same .1 (alike-exact (normalForm c v) (normalForm c w) .0 (told .1 ∙ t)),
+  λ q. sym (told .1) ∙ alike-exact (normalForm c v) (normalForm c w) .1 (same .0 q),
 )
   where
-    told : (firstLine (equalLines c v w) ≡ none) × (sameBytes (normalForm c v) (normalForm c w) ≡ b)
-    told = answer-given (firstLine (equalLines c v w)) (sameBytes (normalForm c v) (normalForm c w)) b e
+    told : (firstLine (equalLines c v w) ≡ none) × (alike? (normalForm c v) (normalForm c w) ≡ b)
+    told = answer-given (firstLine (equalLines c v w)) (alike? (normalForm c v) (normalForm c w)) b e
 
     same : (Equal c v w) ↔ (normalForm c v ≡ normalForm c w)
     same =
@@ -126,8 +128,8 @@ lead-in-demand {area = area} (joined {u = u} e d l) =
 check-demand : (c v w u area0 area1 : List ℕ) (k : Checked) → checkAnswer c v w u area0 area1 ≡ given k
     → (k .yes ≡ true) ↔ Joins c v w u
 check-demand c v w u area0 area1 k e = (
-  λ t. joins .1 (equal .1 (same-bytes vu uw .0 (ap (λ x. x .yes) (told .1) ∙ t))),
-  λ j. sym (ap (λ x. x .yes) (told .1)) ∙ same-bytes vu uw .1 (equal .0 (joins .0 j)),
+  λ t. joins .1 (equal .1 (alike-exact vu uw .0 (ap (λ x. x .yes) (told .1) ∙ t))),
+  λ j. sym (ap (λ x. x .yes) (told .1)) ∙ alike-exact vu uw .1 (equal .0 (joins .0 j)),
 )
   where
     vu : List ℕ
@@ -137,7 +139,7 @@ check-demand c v w u area0 area1 k e = (
     uw = normalForm c (u ++ w)
 
     result : Checked
-    result = record { yes = sameBytes vu uw; vu = length vu; uw = length uw }
+    result = record { yes = alike? vu uw; vu = length vu; uw = length uw }
 
     told : (firstLine (checkLines c v w u area0 area1) ≡ none) × (result ≡ k)
     told = answer-given (firstLine (checkLines c v w u area0 area1)) result k e

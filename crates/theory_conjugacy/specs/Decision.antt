@@ -6,18 +6,12 @@ use mathlib.Core.List.{List, [], _∷_}
 use mathlib.Core.Option.{Option, none, some}
 use lib.ListN.{length}
 use lib.Dec.{eqb}
+use Rattle.theory_words.specs.Alike.{alike?}
 use Rattle.theory_words.specs.Alphabet.{Alphabet, Word}
 use Rattle.theory_conjugacy.specs.Core.{core}
 use Rattle.theory_conjugacy.specs.Part.{commands, apexes, part}
 use Rattle.theory_conjugacy.specs.Settle.{ring}
 use Rattle.theory_conjugacy.specs.Rotation.{rotation}
-
--- the same numbers in the same order
-unfoldable pub alike? : List ℕ → List ℕ → Bool
-alike? [] [] = true
-alike? [] (j ∷ js) = false
-alike? (i ∷ is) [] = false
-alike? (i ∷ is) (j ∷ js) = eqb i j && alike? is js
 
 unfoldable pub found? : Option ℕ → Bool
 found? none = false

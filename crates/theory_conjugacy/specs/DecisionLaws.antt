@@ -9,8 +9,9 @@ use mathlib.Core.Logic.{_⊎_, inl, inr, _↔_}
 use mathlib.Core.List.{List, [], _∷_, _++_, List·Memᴰ·head, List·Memᴰ·tail}
 use lib.ListN.{length, length-append}
 use lib.Dec.{eqb}
-use borrow.Author.Tests.{eqb-true, eq-eqb}
 use Rattle.theory_words.specs.BoolLaws.{and-both}
+use Rattle.theory_words.specs.Alike.{alike?}
+use Rattle.theory_words.specs.AlikeLaws.{alike-true, alike-refl}
 use Rattle.theory_words.specs.All.{All}
 use Rattle.theory_words.specs.Alphabet.{Alphabet, Word}
 use Rattle.theory_words.specs.Trace as Trace
@@ -31,24 +32,10 @@ use Rattle.theory_conjugacy.specs.AscendingLaws.{Within}
 use Rattle.theory_conjugacy.specs.CommandLaws.{all-occurs, commands-turns}
 use Rattle.theory_conjugacy.specs.PartLaws.{ascending-once, shares, label-same, apexes-same, apexes-ascending}
 use Rattle.theory_conjugacy.specs.PartLaws.{apexes-~}
-use Rattle.theory_conjugacy.specs.Decision.{alike?, part-ring, rotated?, parts-joined?, cores-joined?, joined?}
+use Rattle.theory_conjugacy.specs.Decision.{part-ring, rotated?, parts-joined?, cores-joined?, joined?}
 use Rattle.theory_conjugacy.specs.LeadIn.{parts-lead, lead-in}
 use Rattle.theory_conjugacy.specs.LeadInLaws.{apical-part, settling-leads, rotated-test}
 use Rattle.theory_conjugacy.specs.JoinLaws.{part-second, apical-second, parts-lead-conj, parts-lead-length}
-
-pub alike-true : (is js : List ℕ) → alike? is js ≡ true → is ≡ js
-unfolding alike?
-alike-true [] [] t = refl
-alike-true [] (j ∷ js) t = absurd (true≢false (sym t))
-alike-true (i ∷ is) [] t = absurd (true≢false (sym t))
-alike-true (i ∷ is) (j ∷ js) t =
-    let (e, f) = and-both (eqb i j) (alike? is js) t in
-    rw (eqb-true i j e, alike-true is js f)
-
-pub alike-refl : (is : List ℕ) → alike? is is ≡ true
-unfolding alike?
-alike-refl [] = refl
-alike-refl (i ∷ is) = rw (eq-eqb i i refl) (alike-refl is)
 
 -- the letters of a lead-in, counted
 pub bound : (n a b l s t u : ℕ) → (n ≡ 0 → s + t ≡ 0) → 2 * a + l ≤ s → 2 * b + l ≤ t → u + l ≤ (2 * n) * l

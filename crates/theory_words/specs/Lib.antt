@@ -1,6 +1,8 @@
 -- Words over an alphabet with undos and conflicts: swaps, the group, reduction, the normal form.
 -- A definition file holds what a reader must believe; its laws stand in the file of the same name with Laws.
 pub mod BoolLaws
+pub mod Alike
+pub mod AlikeLaws
 pub mod Alphabet
 pub mod All
 pub mod Trace
