@@ -12,7 +12,8 @@ use lib.Dec.{eqb}
 use borrow.Author.Tests.{eq-eqb, ne-eqb}
 use Rattle.theory_words.specs.Alphabet.{Alphabet, Word}
 use Rattle.spec.specs.Letters.{alphabet}
-use Rattle.theory_conjugacy.specs.Part.{chosen-step, chosen, commands, label, apexes, share, part}
+use Rattle.theory_words.specs.Filter.{filter, keepIf}
+use Rattle.theory_conjugacy.specs.Part.{commands, label, apexes, share, part}
 use Rattle.theory_conjugacy.specs.PartLaws.{shares}
 use Rattle.theory_conjugacy.specs.Decision.{part-ring, rotated?, parts-joined?}
 use Rattle.theory_conjugacy.specs.LeadIn.{part-lead, parts-lead}
@@ -55,20 +56,20 @@ module _ (Γ : Alphabet) where
 -- one command
 
 pub apex-absent : (fs labels : List ℕ) (k : ℕ) → (getD fs k 0 ≡ 1 → ⊥) → apexAt fs labels k ≡ []
-unfolding apexAt chosen-step
+unfolding apexAt keepIf
 apex-absent fs labels k n = rw (ne-eqb (getD fs k 0) 1 n)
 
 pub apex-other : (fs labels : List ℕ) (k : ℕ) → (getD labels k 0 ≡ k + 1 → ⊥) → apexAt fs labels k ≡ []
-unfolding apexAt chosen-step
+unfolding apexAt keepIf
 apex-other fs labels k n = go (eqb (getD fs k 0) 1) (ne-eqb (getD labels k 0) (k + 1) n)
   where
-    go : (t : Bool) {s : Bool} → s ≡ false → chosen-step (t && s) (k + 1) [] ≡ []
+    go : (t : Bool) {s : Bool} → s ≡ false → keepIf (t && s) (k + 1) [] ≡ []
     go true e = rw e
     go false e = refl
 
 pub apex-own : (fs labels : List ℕ) (k : ℕ) → getD fs k 0 ≡ 1 → getD labels k 0 ≡ k + 1
     → apexAt fs labels k ≡ (k + 1) ∷ []
-unfolding apexAt chosen-step
+unfolding apexAt keepIf
 apex-own fs labels k e f = rw (eq-eqb (getD fs k 0) 1 e, eq-eqb (getD labels k 0) (k + 1) f)
 
 -- all commands
@@ -78,25 +79,25 @@ module _ (c x : List ℕ) {fs labels : List ℕ} (h : Flags (commands (alphabet 
   abbrev own : ℕ → Bool
   own j = eqb (label (alphabet c) x j) j
 
-  chosen-cons : (t s : Bool) (k : ℕ) (ks : List ℕ) → own k ≡ s
-      → chosen own (chosen-step t k ks) ≡ chosen-step (t && s) k [] ++ chosen own ks
-  unfolding chosen chosen-step
-  chosen-cons true true k ks e = rw e
-  chosen-cons true false k ks e = rw e
-  chosen-cons false s k ks e = refl
+  filter-keepIf : (t s : Bool) (k : ℕ) (ks : List ℕ) → own k ≡ s
+      → filter own (keepIf t k ks) ≡ keepIf (t && s) k [] ++ filter own ks
+  unfolding filter keepIf
+  filter-keepIf true true k ks e = rw e
+  filter-keepIf true false k ks e = rw e
+  filter-keepIf false s k ks e = refl
 
-  from-flagged : (n k : ℕ) → n + k ≡ 24 → chosen own (flagged (k + 1) (drop k fs)) ≡ apexesFrom fs labels n k
-  unfolding apexesFrom flagged chosen apexAt
+  from-flagged : (n k : ℕ) → n + k ≡ 24 → filter own (flagged (k + 1) (drop k fs)) ≡ apexesFrom fs labels n k
+  unfolding apexesFrom flagged filter apexAt
   from-flagged zero k e =
-      ap (λ (z : List ℕ). chosen own (flagged (k + 1) z)) (drop-of-length-le fs {i = k} (omega (arith, h .many)))
+      ap (λ (z : List ℕ). filter own (flagged (k + 1) z)) (drop-of-length-le fs {i = k} (omega (arith, h .many)))
   from-flagged (suc n) k e =
       let d : drop k fs ≡ getD fs k 0 ∷ drop (k + 1) fs = rw (add-one, drop-cons fs k 0 (omega (arith, h .many))) in
-      ap (λ (z : List ℕ). chosen own (flagged (k + 1) z)) d
-      ∙ chosen-cons (eqb (getD fs k 0) 1) (eqb (getD labels k 0) (k + 1)) (k + 1)
+      ap (λ (z : List ℕ). filter own (flagged (k + 1) z)) d
+      ∙ filter-keepIf (eqb (getD fs k 0) 1) (eqb (getD labels k 0) (k + 1)) (k + 1)
       (flagged (k + 1 + 1) (drop (k + 1) fs))
       (ap (λ j. eqb j (k + 1)) (sym (g .each k (omega arith))))
       ∙ ap (λ (z : List ℕ). apexAt fs labels k ++ z) (from-flagged n (k + 1) (omega arith))
 
   pub apexes-from : apexesFrom fs labels 24 0 ≡ apexes (alphabet c) x
   unfolding apexes
-  apexes-from = sym (from-flagged 24 0 refl) ∙ ap (chosen own) (flags-list h)
+  apexes-from = sym (from-flagged 24 0 refl) ∙ ap (filter own) (flags-list h)

@@ -10,7 +10,8 @@ use Rattle.spec.specs.Catalogue as Catalogue
 use Rattle.theory_words.specs.Group.{_≈_, conj}
 use Rattle.spec.specs.Letters.{alphabet}
 use Rattle.spec_laws.specs.LettersLaws.{Commands}
-use Rattle.theory_conjugacy.specs.Part.{chosen-step, commands, label, apexes}
+use Rattle.theory_words.specs.Filter.{keepIf}
+use Rattle.theory_conjugacy.specs.Part.{commands, label, apexes}
 use Rattle.theory_conjugacy.specs.PartLaws.{shares}
 use Rattle.theory_conjugacy.specs.Decision.{cores-joined?}
 use Rattle.conjugacy_parts.specs.Flags.{Flags}
@@ -21,7 +22,7 @@ use Rattle.conjugacy_of_parts.specs.Lead.{Two, Led}
 
 -- command k + 1, if it is flagged and its own label
 unfoldable pub apexAt : List ℕ → List ℕ → ℕ → List ℕ
-apexAt fs labels k = chosen-step (eqb (getD fs k 0) 1 && eqb (getD labels k 0) (k + 1)) (k + 1) []
+apexAt fs labels k = keepIf (eqb (getD fs k 0) 1 && eqb (getD labels k 0) (k + 1)) (k + 1) []
 
 -- several parts: the flags tell of the commands that occur, and the rounds are as many as commands
 pub record Leadable (c : List ℕ) (conflicts : List (List ℕ)) (x y fs labels : List ℕ) (rounds : ℕ)

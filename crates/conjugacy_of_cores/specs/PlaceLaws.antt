@@ -7,7 +7,8 @@ use lib.Dec.{eqb}
 use borrow.Author.Tests.{eq-eqb}
 use Rattle.conjugacy_parts.specs.FlagsLaws.{flag-set}
 use Rattle.spec.specs.Letters.{alphabet}
-use Rattle.theory_conjugacy.specs.AscendingLaws.{_∈_, chosen-in}
+use Rattle.theory_words.specs.FilterLaws.{mem-filter}
+use Rattle.theory_conjugacy.specs.AscendingLaws.{_∈_}
 use Rattle.theory_conjugacy.specs.Part.{commands, label, apexes, part, share}
 use Rattle.theory_conjugacy.specs.PartLaws.{shares, part-share}
 use Rattle.conjugacy_of_parts.specs.declared.Outcome.{Outcome}
@@ -34,7 +35,7 @@ module _ {c : List ℕ} {conflicts : List (List ℕ)} {x y fs labels : List ℕ}
     apical : getD labels k 0 ∈ apexes (alphabet c) x
     unfolding apexes
     apical = subst (λ m. m ∈ apexes (alphabet c) x) (sym f)
-        (chosen-in (λ j. eqb (label (alphabet c) x j) j) (commands (alphabet c) x)
+        (mem-filter (λ j. eqb (label (alphabet c) x j) j) (commands (alphabet c) x)
         (flag-set (h .leadable .flags .each k l) e) (eq-eqb (label (alphabet c) x (k + 1)) (k + 1) own))
 
     part-length : (z : List ℕ)

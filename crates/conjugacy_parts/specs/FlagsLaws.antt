@@ -11,7 +11,7 @@ use lib.ListN.{length, getD}
 use lib.Seq.{ext-getD}
 use borrow.Author.Tests.{eqb-true, eq-eqb}
 use Rattle.theory_words.specs.All.{All, all-map}
-use Rattle.theory_conjugacy.specs.Part.{chosen-step}
+use Rattle.theory_words.specs.Filter.{keepIf}
 use Rattle.theory_conjugacy.specs.AscendingLaws.{_∈_, Ascending, ascending-equal}
 use Rattle.conjugacy_parts.specs.Flags.{Flag, set, clear, Flags}
 use Rattle.conjugacy_parts.specs.Merge.{flagged}
@@ -43,18 +43,18 @@ place-next : {i : ℕ} (k f : ℕ) (fs : List ℕ) → Place i (k + 1) fs → Pl
 place-next k f fs (n, l, e, t) = (suc n, omega arith, omega arith, t)
 
 in-flagged : {i : ℕ} (k : ℕ) (fs : List ℕ) → i ∈ flagged k fs → Place i k fs
-unfolding flagged chosen-step
+unfolding flagged keepIf
 in-flagged k [] m = absurd (List·Memᴰ·not-nil m)
 in-flagged {i} k (f ∷ fs) m = go (eqb f 1) refl m (λ n. in-flagged (k + 1) fs n)
   where
-    go : (t : Bool) → eqb f 1 ≡ t → i ∈ chosen-step t k (flagged (k + 1) fs)
+    go : (t : Bool) → eqb f 1 ≡ t → i ∈ keepIf t k (flagged (k + 1) fs)
         → (i ∈ flagged (k + 1) fs → Place i (k + 1) fs) → Place i k (f ∷ fs)
     go true e (List·Memᴰ·head h) g = (0, omega arith, omega arith, eqb-true f 1 e)
     go true e (List·Memᴰ·tail n) g = place-next k f fs (g n)
     go false e n g = place-next k f fs (g n)
 
 flagged-in : (k n : ℕ) (fs : List ℕ) → n < length fs → getD fs n 0 ≡ 1 → (k + n) ∈ flagged k fs
-unfolding flagged chosen-step
+unfolding flagged keepIf
 flagged-in k n [] l e = absurd (omega arith)
 flagged-in k zero (f ∷ fs) l e =
     let z : k + 0 ≡ k = omega arith in
@@ -62,27 +62,27 @@ flagged-in k zero (f ∷ fs) l e =
 flagged-in k (suc n) (f ∷ fs) l e =
     go (eqb f 1) (Memᴰ·cast (omega arith) (flagged-in (k + 1) n fs (omega arith) e))
   where
-    go : (t : Bool) → (k + suc n) ∈ flagged (k + 1) fs → (k + suc n) ∈ chosen-step t k (flagged (k + 1) fs)
+    go : (t : Bool) → (k + suc n) ∈ flagged (k + 1) fs → (k + suc n) ∈ keepIf t k (flagged (k + 1) fs)
     go true m = List·Memᴰ·tail m
     go false m = m
 
 flagged-above : (k : ℕ) (fs : List ℕ) → All (λ j. k ≤ j) (flagged k fs)
-unfolding flagged chosen-step
+unfolding flagged keepIf
 flagged-above k [] = tt
 flagged-above k (f ∷ fs) = go (eqb f 1) (all-map (λ j h. omega arith) (flagged (k + 1) fs) (flagged-above (k + 1) fs))
   where
-    go : (t : Bool) → All (λ j. k ≤ j) (flagged (k + 1) fs) → All (λ j. k ≤ j) (chosen-step t k (flagged (k + 1) fs))
+    go : (t : Bool) → All (λ j. k ≤ j) (flagged (k + 1) fs) → All (λ j. k ≤ j) (keepIf t k (flagged (k + 1) fs))
     go true a = (omega arith, a)
     go false a = a
 
 flagged-ascending : (k : ℕ) (fs : List ℕ) → Ascending (flagged k fs)
-unfolding flagged chosen-step
+unfolding flagged keepIf
 flagged-ascending k [] = tt
 flagged-ascending k (f ∷ fs) = go (eqb f 1) (flagged-ascending (k + 1) fs)
     (all-map (λ j h. omega arith) (flagged (k + 1) fs) (flagged-above (k + 1) fs))
   where
     go : (t : Bool) → Ascending (flagged (k + 1) fs) → All (λ j. k < j) (flagged (k + 1) fs)
-        → Ascending (chosen-step t k (flagged (k + 1) fs))
+        → Ascending (keepIf t k (flagged (k + 1) fs))
     go true a b = (b, a)
     go false a b = a
 

@@ -7,7 +7,8 @@ use lib.ListN.{length, getD}
 use lib.Dec.{eqb}
 use Rattle.input_conflicts.specs.Conflicts.{bit}
 use Rattle.spec.specs.Conflict.{conflict}
-use Rattle.theory_conjugacy.specs.Part.{chosen-step, relabel-step}
+use Rattle.theory_words.specs.Filter.{keepIf}
+use Rattle.theory_conjugacy.specs.Part.{relabel-step}
 
 -- every label that is low has become high
 pub record Relabelled (low high : ℕ) (before after : List ℕ) : Type 0 where
@@ -20,9 +21,9 @@ LineOf c i line = (j : ℕ) → j < 24 → getD line j 0 ≡ bit (conflict c (i 
 
 -- command j + 1 if it is flagged
 abbrev pub flaggedAt : List ℕ → ℕ → List ℕ
-flaggedAt flags j = chosen-step (eqb (getD flags j 0) 1) (j + 1) []
+flaggedAt flags j = keepIf (eqb (getD flags j 0) 1) (j + 1) []
 
 -- the flagged commands, the first flag being that of command k
 unfoldable pub flagged : ℕ → List ℕ → List ℕ
 flagged k [] = []
-flagged k (f ∷ fs) = chosen-step (eqb f 1) k (flagged (k + 1) fs)
+flagged k (f ∷ fs) = keepIf (eqb f 1) k (flagged (k + 1) fs)

@@ -14,7 +14,8 @@ use lib.Seq.{getD-set-same, getD-set-other, drop-cons}
 use Rattle.input_conflicts.specs.Conflicts.{bit}
 use Rattle.spec.specs.Conflict.{conflict}
 use Rattle.spec.specs.Letters.{alphabet}
-use Rattle.theory_conjugacy.specs.Part.{chosen-step, relabel-step, relabel, merge-step, merge, merge-row, merge-all}
+use Rattle.theory_words.specs.Filter.{keepIf}
+use Rattle.theory_conjugacy.specs.Part.{relabel-step, relabel, merge-step, merge, merge-row, merge-all}
 use Rattle.theory_conjugacy.specs.Part.{labels}
 use Rattle.conjugacy_parts.specs.Flags.{Flags, LabelsOf}
 use Rattle.conjugacy_parts.specs.FlagsLaws.{flags-list}
@@ -104,13 +105,13 @@ module _ (c : List ℕ) where
   -- a pair of which the second is not flagged, or that does not conflict, or that is merged
   pub merged-none : {lab : ℕ → ℕ} {labels : List ℕ} (flags : List ℕ) (i j : ℕ) → (getD flags j 0 ≡ 1 → ⊥)
       → LabelsOf lab labels → LabelsOf (merge-row (alphabet c) i (flaggedAt flags j) lab) labels
-  unfolding merge-row chosen-step
+  unfolding merge-row keepIf
   merged-none flags i j n h = rw (ne-eqb (getD flags j 0) 1 n) h
 
   pub merged-apart : {lab : ℕ → ℕ} {labels : List ℕ} (flags : List ℕ) (i j : ℕ) → getD flags j 0 ≡ 1
       → bit (conflict c i (j + 1)) ≡ 0
       → LabelsOf lab labels → LabelsOf (merge-row (alphabet c) i (flaggedAt flags j) lab) labels
-  unfolding merge-row chosen-step merge merge-step
+  unfolding merge-row keepIf merge merge-step
   merged-apart {lab} {labels} flags i j e z h = rw (eq-eqb (getD flags j 0) 1 e) (go (conflict c i (j + 1)) z)
     where
       go : (t : Bool) → bit t ≡ 0 → LabelsOf (merge-step t (lab i) (lab (j + 1)) lab) labels
@@ -121,7 +122,7 @@ module _ (c : List ℕ) where
       → (bit (conflict c i (j + 1)) ≡ 0 → ⊥)
       → LabelsOf (λ k. relabel (lab i) (lab (j + 1)) (lab k)) labels
       → LabelsOf (merge-row (alphabet c) i (flaggedAt flags j) lab) labels
-  unfolding merge-row chosen-step merge merge-step
+  unfolding merge-row keepIf merge merge-step
   merged-both {labels} lab flags i j e n h = rw (eq-eqb (getD flags j 0) 1 e) (go (conflict c i (j + 1)) n)
     where
       go : (t : Bool) → (bit t ≡ 0 → ⊥) → LabelsOf (merge-step t (lab i) (lab (j + 1)) lab) labels
@@ -157,7 +158,7 @@ pub fold-start : {f : List ℕ → (ℕ → ℕ) → ℕ → ℕ} {flags : List 
 fold-start {first = first} h = record { lab = first; told = h; leads = refl }
 
 flagged-next : (flags : List ℕ) (j : ℕ) → j < length flags
-    → flaggedFrom flags j ≡ chosen-step (eqb (getD flags j 0) 1) (j + 1) (flaggedFrom flags (j + 1))
+    → flaggedFrom flags j ≡ keepIf (eqb (getD flags j 0) 1) (j + 1) (flaggedFrom flags (j + 1))
 unfolding flagged
 flagged-next flags j l =
     let e : drop j flags ≡ getD flags j 0 ∷ drop (j + 1) flags = rw (add-one, drop-cons flags j 0 l) in
@@ -170,11 +171,11 @@ flagged-end flags j l = ap (flagged (j + 1)) (drop-of-length-le flags l)
 module _ {f : List ℕ → (ℕ → ℕ) → ℕ → ℕ} (folds : Folds f) (flags : List ℕ) (many : length flags ≡ 24) where
   fold-next : (j : ℕ) → j < 24 → (lab : ℕ → ℕ)
       → f (flaggedFrom flags j) lab ≡ f (flaggedFrom flags (j + 1)) (f (flaggedAt flags j) lab)
-  unfolding chosen-step
+  unfolding keepIf
   fold-next j l lab = rw (flagged-next flags j (omega arith)) (go (eqb (getD flags j 0) 1))
     where
-      go : (t : Bool) → f (chosen-step t (j + 1) (flaggedFrom flags (j + 1))) lab
-          ≡ f (flaggedFrom flags (j + 1)) (f (chosen-step t (j + 1) []) lab)
+      go : (t : Bool) → f (keepIf t (j + 1) (flaggedFrom flags (j + 1))) lab
+          ≡ f (flaggedFrom flags (j + 1)) (f (keepIf t (j + 1) []) lab)
       go true = folds .more (j + 1) (flaggedFrom flags (j + 1)) lab
       go false = ap (f (flaggedFrom flags (j + 1))) (sym (folds .none lab))
 
@@ -198,13 +199,13 @@ module _ {f : List ℕ → (ℕ → ℕ) → ℕ → ℕ} (folds : Folds f) (fla
 -- the row of a command that is not flagged, and of one that is
 pub row-none : (c : List ℕ) {lab : ℕ → ℕ} {labels : List ℕ} (flags : List ℕ) (i : ℕ) → (getD flags i 0 ≡ 1 → ⊥)
     → LabelsOf lab labels → LabelsOf (merge-all (alphabet c) (flaggedAt flags i) (flagged 1 flags) lab) labels
-unfolding merge-all chosen-step
+unfolding merge-all keepIf
 row-none c flags i n h = rw (ne-eqb (getD flags i 0) 1 n) h
 
 pub row-some : (c : List ℕ) {labels : List ℕ} (lab : ℕ → ℕ) (flags : List ℕ) (i : ℕ) → getD flags i 0 ≡ 1
     → LabelsOf (merge-row (alphabet c) (i + 1) (flagged 1 flags) lab) labels
     → LabelsOf (merge-all (alphabet c) (flaggedAt flags i) (flagged 1 flags) lab) labels
-unfolding merge-all chosen-step
+unfolding merge-all keepIf
 row-some c lab flags i e h = rw (eq-eqb (getD flags i 0) 1 e) h
 
 pub flags-labels : (c : List ℕ) {ks flags labs : List ℕ} → Flags ks flags

@@ -13,10 +13,10 @@ use Rattle.theory_words.specs.TraceLaws.{~-before, ~-after, ~-sym, apart-pass}
 use Rattle.theory_words.specs.ReduceLaws.{reduced-prefix}
 use Rattle.theory_conjugacy.specs.Turn.{Turns, same, turn, also, Round}
 use Rattle.theory_conjugacy.specs.TurnLaws.{turns-of-≡}
-use Rattle.theory_conjugacy.specs.Filter.{filter}
-use Rattle.theory_conjugacy.specs.FilterLaws.{filter-kept, filter-left}
+use Rattle.theory_words.specs.Filter.{filter}
+use Rattle.theory_words.specs.FilterLaws.{filter-kept, filter-left}
 use Rattle.theory_conjugacy.specs.CommandLaws.{Occurs, now, later, apart-occurs, occurs-back, filter-occurs}
-use Rattle.theory_conjugacy.specs.Part.{label, part, share}
+use Rattle.theory_conjugacy.specs.Part.{label, byCommand, part, share}
 use Rattle.theory_conjugacy.specs.PartLaws.{Independent, label-parting}
 
 module _ (Γ : Alphabet) where
@@ -29,21 +29,21 @@ module _ (Γ : Alphabet) where
   -- a test that parts the commands of w into independent ones parts w
   filter-parts : (f : ℕ → Bool) (w : Word Γ)
       → ((i j : ℕ) → Occurs Γ i w → Occurs Γ j w → f i ≡ true → f j ≡ false → conf i j ≡ false)
-      → w ~ (filter Γ f w ++ filter Γ (λ k. not (f k)) w)
+      → w ~ (byCommand Γ f w ++ byCommand Γ (λ k. not (f k)) w)
   unfolding filter
   filter-parts f [] h = done
   filter-parts f (a ∷ w) h = go (f (cmd a)) refl (filter-parts f w (λ i j o p. h i j (later o) (later p)))
     where
       p : Word Γ
-      p = filter Γ f w
+      p = byCommand Γ f w
 
       q : Word Γ
-      q = filter Γ (λ k. not (f k)) w
+      q = byCommand Γ (λ k. not (f k)) w
 
       go : (t : Bool) → f (cmd a) ≡ t → w ~ (p ++ q)
-          → (a ∷ w) ~ (filter Γ f (a ∷ w) ++ filter Γ (λ k. not (f k)) (a ∷ w))
-      go true e k = rw (filter-kept Γ f a w e, filter-left Γ (λ k. not (f k)) a w (rw e refl)) (cons k)
-      go false e k = rw (filter-left Γ f a w e, filter-kept Γ (λ k. not (f k)) a w (rw e refl))
+          → (a ∷ w) ~ (byCommand Γ f (a ∷ w) ++ byCommand Γ (λ k. not (f k)) (a ∷ w))
+      go true e k = rw (filter-kept (λ b. f (cmd b)) a w e, filter-left (λ b. not (f (cmd b))) a w (rw e refl)) (cons k)
+      go false e k = rw (filter-left (λ b. f (cmd b)) a w e, filter-kept (λ b. not (f (cmd b))) a w (rw e refl))
           (next (cons k) (apart-pass Γ a p (apart-occurs Γ a p (λ i o.
           let (o′, t) = filter-occurs Γ f w o in Γ .conf-sym (cmd a) i ∙ h i (cmd a) (later o′) (now refl) t e)) q))
 
@@ -72,6 +72,6 @@ module _ (Γ : Alphabet) where
       let h : (i j : ℕ) → Occurs Γ i x → Occurs Γ j x → f i ≡ true → f j ≡ false → conf i j ≡ false =
       λ i j o p s t. label-parting Γ x i j o p
       (λ e. eqb-false (label Γ x j) m t (sym e ∙ eqb-true (label Γ x i) m s)) in
-      round-factor (filter Γ f x) (filter Γ (λ j. not (f j)) x) k (filter-parts f x h)
+      round-factor (byCommand Γ f x) (byCommand Γ (λ j. not (f j)) x) k (filter-parts f x h)
       (λ i j o p. let (oi, s) = filter-occurs Γ f x o in
       let (oj, t) = filter-occurs Γ (λ j. not (f j)) x p in h i j oi oj s (not-true (f j) t))

@@ -22,7 +22,7 @@ use Rattle.spec.specs.Letters.{letters, alphabet, normalForm}
 use Rattle.spec_laws.specs.LettersLaws.{Commands, letters-same, letters-length, commands-passing}
 use Rattle.theory_conjugacy.specs.Turn.{Turns}
 use Rattle.theory_conjugacy.specs.TurnLaws.{round-turns, round-reduced, turns-length}
-use Rattle.theory_conjugacy.specs.FilterLaws.{filter-length}
+use Rattle.theory_words.specs.FilterLaws.{filter-length}
 use Rattle.theory_conjugacy.specs.Part as Part
 use Rattle.theory_conjugacy.specs.Part.{apexes, part, share}
 use Rattle.theory_conjugacy.specs.Settle.{split, settled, cycled, ring}
@@ -65,7 +65,7 @@ module _ {c : List ℕ} {conflicts : List (List ℕ)} {x : List ℕ} (k : Cyclic
 
   pub part-short : length p ≤ length x
   unfolding part share
-  part-short = filter-length (alphabet c) (λ j. _) x
+  part-short = filter-length (λ a. _) x
 
   part-letters : Commands (commands c) p
   part-letters = part-all (alphabet c) (λ b. isCommand (commands c) b ≡ true) m x (k .letters)

@@ -7,6 +7,7 @@ use mathlib.Core.List.{List, [], _∷_}
 use lib.ListN.{length, getD, drop, replicate, getD-replicate}
 use lib.Seq.{drop-cons, drop-length}
 use borrow.Author.Tests.{eq-eqb, ne-eqb}
+use Rattle.theory_words.specs.Filter.{filter}
 use Rattle.theory_words.specs.Trace.{First}
 use Rattle.theory_words.specs.Reduce.{act, reduce}
 use Rattle.theory_words.specs.ReduceLaws.{cut, put, act-is}
@@ -29,7 +30,7 @@ use Rattle.long_form.specs.Reducing.{Given, Reducing}
 pub reducing-start : {c : List ℕ} {conflicts : List (List ℕ)} {word under link : List ℕ} → Given c conflicts word
     → length word ≤ length under → length word ≤ length link
     → Reducing c conflicts word under link (replicate 24 0) (replicate 24 1) (length word)
-unfolding letters reduce proj
+unfolding letters filter reduce proj
 reducing-start {c} {conflicts} {word} {under} {link} g u l = record {
   given = g;
   stacks = rw (drop-length word) (record {

@@ -9,6 +9,7 @@ use native.Mathlib.Decide.{ℕ-discrete}
 use lib.ListN.{length, getD, take, length-take, length-reverse}
 use lib.Seq.{take-all}
 use borrow.Author.Tests.{eq-eqb, ne-eqb}
+use Rattle.theory_words.specs.Filter.{filter}
 use Rattle.theory_words.specs.Trace.{First}
 use Rattle.theory_words.specs.Group as Group
 use Rattle.theory_words.specs.Group.{Reduced, back, empty}
@@ -163,7 +164,7 @@ module _ (c w : List ℕ) where
 
   pub left-none : {z₀ : List ℕ} {rows : List (List ℕ)} {heights : List ℕ} {spare : ℕ} → Left z₀ rows heights spare 0
       → z₀ ≈ reverse (letters w)
-  unfolding letters
+  unfolding letters filter
   left-none q = q .same .1 (go (q .word) (omega (arith, q .spared)))
     where
       go : (z : List ℕ) → length z ≡ 0 → z ≈ []

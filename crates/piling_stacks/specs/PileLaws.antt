@@ -8,6 +8,7 @@ use mathlib.Core.List.{List, [], _∷_, _++_, reverse, reverse-append, append-ni
 use lib.ListN.{length, getD, take, length-reverse, length-take}
 use lib.Seq.{take-suc, take-all}
 use borrow.Author.Tests.{eq-eqb, ne-eqb}
+use Rattle.theory_words.specs.Filter.{filter}
 use Rattle.theory_words.specs.Reduce.{act, reduce}
 use Rattle.theory_words.specs.ReduceLaws.{reduce-least}
 use Rattle.theory_words.specs.GroupLaws.{≈-refl}
@@ -35,13 +36,13 @@ module _ (v : List ℕ) (i : ℕ) (l : i < length v) where
   letters-more = rw add-one (ap letters (take-suc v i 0 l) ∙ letters-append (take i v) (getD v i 0 ∷ []))
 
   pub more-filler : getD v i 0 ≡ 0 → reverse (letters (take (i + 1) v)) ≡ reverse (letters (take i v))
-  unfolding letters
+  unfolding letters filter
   more-filler e =
       rw (letters-more, letters-filler (getD v i 0) [] (eq-eqb (getD v i 0) 0 e), append-nil (letters (take i v)))
 
   pub more-letter : ¬ (getD v i 0 ≡ 0)
       → reverse (letters (take (i + 1) v)) ≡ getD v i 0 ∷ reverse (letters (take i v))
-  unfolding letters
+  unfolding letters filter
   more-letter n =
       rw (
         letters-more,
@@ -84,7 +85,7 @@ pub record Piling (plan : List ℕ) (conflicts rows₀ : List (List ℕ)) (heigh
 
 module _ {plan : List ℕ} {conflicts rows₀ : List (List ℕ)} {heights₀ : List ℕ} where
   pub piling-start : Piling plan conflicts rows₀ heights₀ rows₀ heights₀ 0 0
-  unfolding letters reduce
+  unfolding letters filter reduce
   piling-start = record { within = omega arith; piled = λ c g. record { piled = g .blank; count = refl } }
 
   pub given-range : {c : List ℕ} → Given c plan conflicts rows₀ heights₀ → (i : ℕ) → i < length plan

@@ -1,24 +1,20 @@
 -- From bytes to words: fillers have no effect, so a plan's word is its other bytes. The alphabet of a catalogue is the
 -- numbers, each with its undo and its command, and two letters are dependent if their commands conflict.
 use Prim.Native.Nat.{ℕ}
-use mathlib.Core.Bool.{Bool, true, false}
-use mathlib.Core.List.{List, [], _∷_}
+use mathlib.Core.Bool.{not}
+use mathlib.Core.List.{List}
 use native.Mathlib.Decide.{ℕ-discrete}
 use lib.Dec.{eqb}
 use Rattle.theory_words.specs.Alphabet.{Alphabet}
+use Rattle.theory_words.specs.Filter.{filter}
 use Rattle.theory_words.specs.Normal.{nf}
 use Rattle.spec.specs.Conflict.{conflict}
 use Rattle.spec.specs.AlphabetLaws.{conflict-refl, conflict-sym, undone-undone, command-undone}
 use Rattle.spec.specs.Byte.{commandOf, undone}
 
-unfoldable pub letters-step : Bool → ℕ → List ℕ → List ℕ
-letters-step true b v = v
-letters-step false b v = b ∷ v
-
 -- the bytes that are no fillers
 unfoldable pub letters : List ℕ → List ℕ
-letters [] = []
-letters (b ∷ v) = letters-step (eqb b 0) b (letters v)
+letters v = filter (λ b. not (eqb b 0)) v
 
 -- the alphabet of a catalogue; the laws hold for every number
 abbrev pub alphabet : List ℕ → Alphabet

@@ -1,7 +1,7 @@
 -- Lead-ins of plans and conjugating words are the same thing; and a lead-in is checked by v·u and u·w.
 use Prim.Native.Nat.{ℕ}
-use mathlib.Core.Path.{_≡_, refl, sym, _∙_, ap, subst₂}
-use mathlib.Core.Bool.{Bool, true, false, not}
+use mathlib.Core.Path.{_≡_, sym, _∙_, ap, subst₂}
+use mathlib.Core.Bool.{true}
 use mathlib.Core.List.{List, [], _∷_, _++_}
 use mathlib.Core.Logic.{_↔_}
 use native.Mathlib.Omega.{arith}
@@ -9,10 +9,11 @@ use borrow.Author.Tests.{eqb-true}
 use Rattle.theory_words.specs.Group as Group
 use Rattle.theory_words.specs.Group.{conj, undoBy}
 use Rattle.theory_words.specs.GroupLaws.{undo-onto, conj-of, conj-swap}
+use Rattle.theory_words.specs.FilterLaws.{filter-append, filter-undo}
 use Rattle.spec.specs.Catalogue.{commands}
 use Rattle.spec.specs.Plan.{isCommand, passes, Passing}
 use Rattle.spec.specs.Byte.{undone, undoOf}
-use Rattle.spec.specs.Letters.{letters, letters-step, alphabet}
+use Rattle.spec.specs.Letters.{letters, alphabet}
 use Rattle.spec_laws.specs.CommandLaws.{isCommand-undone, passes-cases, command-passes}
 use Rattle.spec_laws.specs.PlanLaws.{passes-low, passing-append, passing-right}
 use Rattle.spec_laws.specs.LettersLaws.{letters-commands, letters-undone, letters-append, letters-same}
@@ -55,30 +56,12 @@ module _ (c : List ℕ) where
       (undone-passing u (v ++ u) l (passing-append (commands c) v u h l)) k
       )
 
-  kept-append : (u v : List ℕ) → kept c (u ++ v) ≡ kept c u ++ kept c v
-  unfolding kept letters-step
-  kept-append [] v = refl
-  kept-append (a ∷ u) v = go (isCommand (commands c) a) (kept-append u v)
-    where
-      go : (t : Bool) → kept c (u ++ v) ≡ kept c u ++ kept c v
-          → letters-step (not t) a (kept c (u ++ v)) ≡ letters-step (not t) a (kept c u) ++ kept c v
-      go true e = ap (λ x. a ∷ x) e
-      go false e = e
-
-  kept-undo : (u v : List ℕ) → kept c (undoBy undone u v) ≡ undoBy undone (kept c u) (kept c v)
-  unfolding kept letters-step
-  kept-undo [] v = refl
-  kept-undo (a ∷ u) v =
-      kept-undo u (undone a ∷ v) ∙ rw (isCommand-undone (commands c) a) (go (isCommand (commands c) a))
-    where
-      go : (t : Bool) → undoBy undone (kept c u) (letters-step (not t) (undone a) (kept c v))
-          ≡ undoBy undone (letters-step (not t) a (kept c u)) (kept c v)
-      go true = refl
-      go false = refl
-
   kept-conj : (u v : List ℕ) → kept c (conj (alphabet c) u v) ≡ conj (alphabet c) (kept c u) (kept c v)
   unfolding conj
-  kept-conj u v = kept-undo u (v ++ u) ∙ ap (undoBy undone (kept c u)) (kept-append v u)
+  kept-conj u v =
+      let p = isCommand (commands c) in
+      filter-undo p undone (isCommand-undone (commands c)) u (v ++ u)
+      ∙ ap (undoBy undone (kept c u)) (filter-append p v u)
 
   -- a conjugating word of any letters gives a lead-in: its letters that are no commands are left out
   pub words-join : (v w u : List ℕ) → Passing (commands c) v → Passing (commands c) w

@@ -9,6 +9,7 @@ use native.Mathlib.Omega.{arith}
 use native.Mathlib.Nat.{le-trans}
 use lib.Dec.{eqb}
 use lib.ListN.{length}
+use Rattle.theory_words.specs.Filter.{filter}
 use Rattle.theory_words.specs.Group.{_≈_}
 use Rattle.theory_words.specs.Normal.{Smaller}
 use Rattle.theory_words.specs.NormalLaws.{nf-≈, nf-complete, nf-sound, nf-length, nf-least, nf-first}
@@ -30,7 +31,7 @@ case (inr b) f g = g b
 
 -- a plan with no filler is its own word
 letters-full : (v : List ℕ) → length (letters v) ≡ length v → letters v ≡ v
-unfolding letters
+unfolding letters filter
 letters-full [] e = refl
 letters-full (b ∷ v) e = go (eqb b 0) refl (letters-full v)
   where

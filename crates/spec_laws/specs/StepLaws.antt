@@ -2,7 +2,7 @@
 -- catalogue's alphabet.
 use Prim.Native.Nat.{ℕ}
 use mathlib.Core.Path.{_≡_, refl, _∙_, ap, subst₂}
-use mathlib.Core.Bool.{Bool, true, false, not}
+use mathlib.Core.Bool.{Bool, true, false}
 use mathlib.Core.List.{List, [], _∷_}
 use mathlib.Core.Logic.{_↔_}
 use lib.Dec.{eqb}
@@ -10,13 +10,15 @@ use borrow.Author.Tests.{eqb-true}
 use Rattle.theory_words.specs.Group as Group
 use Rattle.theory_words.specs.Group.{empty, keep, trade, drop, then, back}
 use Rattle.theory_words.specs.GroupLaws.{≈-refl}
+use Rattle.theory_words.specs.Filter.{filter, keepIf, dropIf}
+use Rattle.theory_words.specs.FilterLaws.{filter-passes, filter-whole}
 use Rattle.spec.specs.Catalogue.{commands}
 use Rattle.spec.specs.Conflict.{conflict}
 use Rattle.spec.specs.AlphabetLaws.{conflict-sym}
 use Rattle.spec.specs.Plan.{isCommand, passes, Passing}
 use Rattle.spec.specs.Byte.{commandOf, undone}
 use Rattle.spec_laws.specs.CommandLaws.{isCommand-undone, command-nonzero, command-passes}
-use Rattle.spec.specs.Letters.{letters, letters-step, alphabet}
+use Rattle.spec.specs.Letters.{letters, alphabet}
 use Rattle.spec_laws.specs.LettersLaws.{Commands, letters-filler, letters-letter, letters-commands}
 use Rattle.spec_laws.specs.LettersLaws.{commands-passing}
 use Rattle.spec.specs.Step.{Step, swap, pairIn, pairOut, fillerIn, fillerOut, later, Equal, stay, step}
@@ -92,37 +94,28 @@ module _ (c : List ℕ) where
 
   -- from words to plans: letters that are no commands are left out
 
-  unfoldable pub kept : List ℕ → List ℕ
-  kept [] = []
-  kept (a ∷ w) = letters-step (not (isCommand n a)) a (kept w)
+  abbrev pub kept : List ℕ → List ℕ
+  kept = filter (isCommand n)
 
   pub kept-commands : (w : List ℕ) → Commands n (kept w)
-  unfolding kept letters-step
-  kept-commands [] = tt
-  kept-commands (a ∷ w) = go (isCommand n a) refl (kept-commands w)
-    where
-      go : (t : Bool) → isCommand n a ≡ t → Commands n (kept w) → Commands n (letters-step (not t) a (kept w))
-      go true e k = (e, k)
-      go false e k = k
+  kept-commands w = filter-passes (isCommand n) w
 
   pub kept-passing : (w : List ℕ) → Passing n (kept w)
   kept-passing w = commands-passing n (kept w) (kept-commands w)
 
   pub kept-same : (w : List ℕ) → Commands n w → kept w ≡ w
-  unfolding kept letters-step
-  kept-same [] h = refl
-  kept-same (a ∷ w) h = rw (h .0) (ap (λ (x : List ℕ). a ∷ x) (kept-same w (h .1)))
+  kept-same w h = filter-whole (isCommand n) w h
 
   kept-keep : (a : ℕ) (t : Bool) {v w : List ℕ} → isCommand n a ≡ t → Equal c v w
-      → Equal c (letters-step (not t) a v) (letters-step (not t) a w)
-  unfolding letters-step
+      → Equal c (keepIf t a v) (keepIf t a w)
+  unfolding keepIf
   kept-keep a true k e = equal-later (command-passes n a k) e
   kept-keep a false k e = e
 
   kept-trade : (a b : ℕ) (s t : Bool) (y : List ℕ) → isCommand n a ≡ s → isCommand n b ≡ t
       → conflict c (commandOf a) (commandOf b) ≡ false → Passing n y
-      → Equal c (letters-step (not s) a (letters-step (not t) b y)) (letters-step (not t) b (letters-step (not s) a y))
-  unfolding letters-step
+      → Equal c (keepIf s a (keepIf t b y)) (keepIf t b (keepIf s a y))
+  unfolding keepIf
   kept-trade a b true true y j k d h =
       let p : Passing n (a ∷ b ∷ y) = (command-passes n a j, (command-passes n b k, h)) in
       let q : Passing n (b ∷ a ∷ y) = (p .1 .0, (p .0, h)) in
@@ -132,8 +125,8 @@ module _ (c : List ℕ) where
   kept-trade a b false false y j k d h = stay h
 
   kept-drop : (a : ℕ) (t : Bool) (y : List ℕ) → isCommand n a ≡ t → Passing n y
-      → Equal c (letters-step (not t) a (letters-step (not t) (undone a) y)) y
-  unfolding letters-step
+      → Equal c (keepIf t a (keepIf t (undone a) y)) y
+  unfolding keepIf
   kept-drop a true y j h =
       let k = isCommand-undone n a ∙ j in
       let p : Passing n (a ∷ undone a ∷ y) = (command-passes n a j, (command-passes n (undone a) k, h)) in
@@ -141,7 +134,7 @@ module _ (c : List ℕ) where
   kept-drop a false y j h = stay h
 
   pub kept-equal : {v w : List ℕ} → v ≈ w → Equal c (kept v) (kept w)
-  unfolding kept
+  unfolding filter
   kept-equal empty = let p : Passing n [] = tt in stay p
   kept-equal (keep {a = a} e) = kept-keep a (isCommand n a) refl (kept-equal e)
   kept-equal (trade {a = a} {b = b} {w = w} d) =
@@ -156,11 +149,11 @@ module _ (c : List ℕ) where
 
   -- a plan is equal to its word: the fillers are taken out
   pub equal-letters : (v : List ℕ) → Passing n v → Equal c v (letters v)
-  unfolding letters letters-step
+  unfolding letters filter keepIf
   equal-letters [] h = stay h
   equal-letters (b ∷ v) h = go (eqb b 0) refl (equal-letters v (h .1))
     where
-      go : (t : Bool) → eqb b 0 ≡ t → Equal c v (letters v) → Equal c (b ∷ v) (letters-step t b (letters v))
+      go : (t : Bool) → eqb b 0 ≡ t → Equal c v (letters v) → Equal c (b ∷ v) (dropIf t b (letters v))
       go true e f = let s : Step c (b ∷ v) v = rw (eqb-true b 0 e) fillerOut in step h s f
       go false e f = equal-later (h .0) f
 

@@ -2,14 +2,16 @@
 -- equal, and a list with fewer members is shorter.
 use Prim.Native.Nat.{ℕ, suc, _+_, _≤_, _<_}
 use mathlib.Core.Path.{_≡_, refl, sym, _∙_, ap, ap₂, subst}
-use mathlib.Core.Bool.{Bool, true, false, not, false≢true}
+use mathlib.Core.Bool.{Bool, true, false, not}
 use mathlib.Core.List.{List, [], _∷_, List·Memᴰ, List·Memᴰ·head, List·Memᴰ·tail, List·Memᴰ·not-nil, Memᴰ·cast}
 use mathlib.Core.Logic.{_⊎_, inl, inr}
 use lib.ListN.{length}
 use lib.Dec.{T, ltb, ltb→lt, nltb→le}
 use native.Mathlib.Omega.{arith}
 use Rattle.theory_words.specs.All.{All, all-mem, all-map}
-use Rattle.theory_conjugacy.specs.Part.{insert, insert-step, chosen, chosen-step}
+use Rattle.theory_words.specs.Filter.{filter, keepIf}
+use Rattle.theory_words.specs.FilterLaws.{filter-all}
+use Rattle.theory_conjugacy.specs.Part.{insert, insert-step}
 
 infix 20 _∈_
 abbrev pub _∈_ : ℕ → List ℕ → Type 0
@@ -170,46 +172,12 @@ ascending-length low high (k ∷ ks) a h l u =
     let j : low ≤ k = l .0 in
     omega arith
 
--- choosing by a test
-pub chosen-in : (f : ℕ → Bool) {k : ℕ} (ks : List ℕ) → k ∈ ks → f k ≡ true → k ∈ chosen f ks
-unfolding chosen chosen-step
-chosen-in f {k} (j ∷ js) (List·Memᴰ·head e) t = go (f j) (ap f (sym e) ∙ t)
+-- what passes a test
+pub filter-ascending : (f : ℕ → Bool) (ks : List ℕ) → Ascending ks → Ascending (filter f ks)
+unfolding filter keepIf
+filter-ascending f [] a = tt
+filter-ascending f (j ∷ js) a = go (f j) (filter-ascending f js (a .1)) (filter-all f (λ i. j < i) js (a .0))
   where
-    go : (s : Bool) → s ≡ true → k ∈ chosen-step s j (chosen f js)
-    go true h = List·Memᴰ·head e
-    go false h = absurd (false≢true h)
-chosen-in f {k} (j ∷ js) (List·Memᴰ·tail m) t = go (f j) (chosen-in f js m t)
-  where
-    go : (s : Bool) → k ∈ chosen f js → k ∈ chosen-step s j (chosen f js)
-    go true n = List·Memᴰ·tail n
-    go false n = n
-
-pub in-chosen : (f : ℕ → Bool) {k : ℕ} (ks : List ℕ) → k ∈ chosen f ks → (k ∈ ks) × (f k ≡ true)
-unfolding chosen chosen-step
-in-chosen f [] m = absurd (List·Memᴰ·not-nil m)
-in-chosen f {k} (j ∷ js) m = go (f j) refl m (λ n. in-chosen f js n)
-  where
-    go : (s : Bool) → f j ≡ s → k ∈ chosen-step s j (chosen f js) → (k ∈ chosen f js → (k ∈ js) × (f k ≡ true))
-        → (k ∈ j ∷ js) × (f k ≡ true)
-    go true e (List·Memᴰ·head h) g = (List·Memᴰ·head h, ap f h ∙ e)
-    go true e (List·Memᴰ·tail n) g = let (o, p) = g n in (List·Memᴰ·tail o, p)
-    go false e n g = let (o, p) = g n in (List·Memᴰ·tail o, p)
-
-chosen-above : (f : ℕ → Bool) (l : ℕ) (ks : List ℕ) → All (λ i. l < i) ks → All (λ i. l < i) (chosen f ks)
-unfolding chosen chosen-step
-chosen-above f l [] b = tt
-chosen-above f l (k ∷ ks) b = go (f k) (chosen-above f l ks (b .1))
-  where
-    go : (s : Bool) → All (λ i. l < i) (chosen f ks) → All (λ i. l < i) (chosen-step s k (chosen f ks))
-    go true c = (b .0, c)
-    go false c = c
-
-pub chosen-ascending : (f : ℕ → Bool) (ks : List ℕ) → Ascending ks → Ascending (chosen f ks)
-unfolding chosen chosen-step
-chosen-ascending f [] a = tt
-chosen-ascending f (j ∷ js) a = go (f j) (chosen-ascending f js (a .1)) (chosen-above f j js (a .0))
-  where
-    go : (s : Bool) → Ascending (chosen f js) → All (λ i. j < i) (chosen f js)
-        → Ascending (chosen-step s j (chosen f js))
+    go : (s : Bool) → Ascending (filter f js) → All (λ i. j < i) (filter f js) → Ascending (keepIf s j (filter f js))
     go true b c = (c, b)
     go false b c = b

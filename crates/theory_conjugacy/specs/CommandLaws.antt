@@ -14,8 +14,8 @@ use Rattle.theory_words.specs.Trace as Trace
 use Rattle.theory_words.specs.Trace.{done, cons, swap, next}
 use Rattle.theory_words.specs.TraceLaws.{~-sym, Apart}
 use Rattle.theory_conjugacy.specs.Turn.{Turns, same, turn, also}
-use Rattle.theory_conjugacy.specs.Filter.{filter, filter-step}
-use Rattle.theory_conjugacy.specs.Part.{commands}
+use Rattle.theory_words.specs.Filter.{filter, keepIf}
+use Rattle.theory_conjugacy.specs.Part.{commands, byCommand}
 use Rattle.theory_conjugacy.specs.AscendingLaws.{_∈_, Ascending, insert-in, in-insert, insert-ascending}
 use Rattle.theory_conjugacy.specs.AscendingLaws.{ascending-equal, within-shorter, ascending-length}
 
@@ -112,37 +112,38 @@ module _ (Γ : Alphabet) where
   occurs-all P (a ∷ w) f = (f (cmd a) (now refl), occurs-all P w (λ k o. f k (later o)))
 
   -- of a word filtered, the commands that pass
-  pub occurs-filter : (f : ℕ → Bool) {k : ℕ} {w : Word Γ} → Occurs k w → f k ≡ true → Occurs k (filter Γ f w)
-  unfolding filter filter-step
+  pub occurs-filter : (f : ℕ → Bool) {k : ℕ} {w : Word Γ} → Occurs k w → f k ≡ true → Occurs k (byCommand Γ f w)
+  unfolding filter keepIf
   occurs-filter f {k} (now {a = a} {w = w} e) t = go (f (cmd a)) (ap f (sym e) ∙ t)
     where
-      go : (s : Bool) → s ≡ true → Occurs k (filter-step Γ s a (filter Γ f w))
+      go : (s : Bool) → s ≡ true → Occurs k (keepIf s a (byCommand Γ f w))
       go true h = now e
       go false h = absurd (true≢false (sym h))
   occurs-filter f {k} (later {a = a} {w = w} o) t = go (f (cmd a)) (occurs-filter f o t)
     where
-      go : (s : Bool) → Occurs k (filter Γ f w) → Occurs k (filter-step Γ s a (filter Γ f w))
+      go : (s : Bool) → Occurs k (byCommand Γ f w) → Occurs k (keepIf s a (byCommand Γ f w))
       go true p = later p
       go false p = p
 
-  pub filter-occurs : (f : ℕ → Bool) {k : ℕ} (w : Word Γ) → Occurs k (filter Γ f w) → Occurs k w × (f k ≡ true)
-  unfolding filter filter-step
+  pub filter-occurs : (f : ℕ → Bool) {k : ℕ} (w : Word Γ) → Occurs k (byCommand Γ f w) → Occurs k w × (f k ≡ true)
+  unfolding filter keepIf
   filter-occurs f [] o = absurd (occurs-nil o)
   filter-occurs f {k} (a ∷ w) o = go (f (cmd a)) refl o (λ p. filter-occurs f w p)
     where
-      go : (s : Bool) → f (cmd a) ≡ s → Occurs k (filter-step Γ s a (filter Γ f w))
-          → (Occurs k (filter Γ f w) → Occurs k w × (f k ≡ true)) → Occurs k (a ∷ w) × (f k ≡ true)
+      go : (s : Bool) → f (cmd a) ≡ s → Occurs k (keepIf s a (byCommand Γ f w))
+          → (Occurs k (byCommand Γ f w) → Occurs k w × (f k ≡ true)) → Occurs k (a ∷ w) × (f k ≡ true)
       go true e (now h) g = (now h, ap f h ∙ e)
       go true e (later p) g = let (q, t) = g p in (later q, t)
       go false e p g = let (q, t) = g p in (later q, t)
 
   -- tests that agree on the commands that occur filter alike
-  pub filter-same : (f g : ℕ → Bool) (w : Word Γ) → ((k : ℕ) → Occurs k w → f k ≡ g k) → filter Γ f w ≡ filter Γ g w
+  pub filter-same : (f g : ℕ → Bool) (w : Word Γ) → ((k : ℕ) → Occurs k w → f k ≡ g k)
+      → byCommand Γ f w ≡ byCommand Γ g w
   unfolding filter
   filter-same f g [] h = refl
   filter-same f g (a ∷ w) h =
       let e : f (cmd a) ≡ g (cmd a) = h (cmd a) (now refl) in
-      let i : filter Γ f w ≡ filter Γ g w = filter-same f g w (λ k o. h k (later o)) in
+      let i : byCommand Γ f w ≡ byCommand Γ g w = filter-same f g w (λ k o. h k (later o)) in
       rw (e, i)
 
   -- the list of the commands

@@ -21,8 +21,7 @@ use Rattle.theory_words.specs.Group.{undo, conj, then, back}
 use Rattle.theory_words.specs.GroupLaws.{~→≈, ≈-conj, undo-length}
 use Rattle.theory_words.specs.ReduceLaws.{reduce-length}
 use Rattle.theory_conjugacy.specs.Turn.{Turns}
-use Rattle.theory_conjugacy.specs.TurnLaws.{turns-length}
-use Rattle.theory_conjugacy.specs.FilterLaws.{filter-turns}
+use Rattle.theory_conjugacy.specs.TurnLaws.{turns-length, filter-turns}
 use Rattle.theory_conjugacy.specs.Core.{core, lead}
 use Rattle.theory_conjugacy.specs.CoreLaws.{core-length, core-all}
 use Rattle.theory_conjugacy.specs.ConjugateLaws.{conjugate-cores, cores-conjugate}
@@ -62,7 +61,7 @@ module _ (Γ : Alphabet) where
 
   turns-share : {x y : Word Γ} → Turns Γ x y → (m : ℕ) → Turns Γ (part Γ m x) (share Γ (label Γ x) m y)
   unfolding part share
-  turns-share {x} s m = filter-turns Γ (λ k. eqb (label Γ x k) m) s
+  turns-share {x} s m = filter-turns Γ (λ a. eqb (label Γ x (cmd a)) m) s
 
   turns-part : {x y : Word Γ} → Turns Γ x y → (m : ℕ) → Turns Γ (part Γ m x) (part Γ m y)
   turns-part {x} {y} s m = rw (part-second Γ x y (commands-turns Γ s) m) (turns-share s m)

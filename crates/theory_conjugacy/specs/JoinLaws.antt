@@ -3,7 +3,7 @@ use Prim.Native.Nat.{ℕ, zero, suc, _+_, _*_, _≤_}
 use native.Mathlib.Nat.{add-mul, mul-add}
 use native.Mathlib.Omega.{arith}
 use mathlib.Core.Path.{_≡_, refl, sym, _∙_, ap, subst}
-use mathlib.Core.Bool.{Bool, true, false}
+use mathlib.Core.Bool.{true}
 use mathlib.Core.Logic.{_⊎_, inl, inr, _≢_}
 use mathlib.Core.List.{List, [], _∷_, _++_, List·Memᴰ·head, List·Memᴰ·tail}
 use lib.ListN.{length, length-append}
@@ -15,7 +15,7 @@ use Rattle.theory_words.specs.Group as Group
 use Rattle.theory_words.specs.Group.{conj, then}
 use Rattle.theory_words.specs.TraceLaws.{~-sym}
 use Rattle.theory_words.specs.GroupLaws.{≈-of-≡, ~→≈, ≈-append, ≈-conj, conj-nil, conj-append, conj-of, conj-product}
-use Rattle.theory_conjugacy.specs.Filter.{filter, filter-step}
+use Rattle.theory_words.specs.FilterLaws.{filter-all}
 use Rattle.theory_conjugacy.specs.Part.{commands, label, apexes, share, part}
 use Rattle.theory_conjugacy.specs.AscendingLaws.{_∈_, Within}
 use Rattle.theory_conjugacy.specs.CommandLaws.{Occurs, occurs-nil, occurs-split, occurs-all, all-occurs}
@@ -58,18 +58,9 @@ module _ (Γ : Alphabet) where
       go (inl p) f = let (q, e) = share-occurs Γ lab m w p in (q, List·Memᴰ·head e)
       go (inr p) f = let (q, i) = f p in (q, List·Memᴰ·tail i)
 
-  all-filter : (P : Letter → Type 0) (f : ℕ → Bool) (w : Word Γ) → All P w → All P (filter Γ f w)
-  unfolding filter filter-step
-  all-filter P f [] h = tt
-  all-filter P f (a ∷ w) h = go (f (cmd a)) (all-filter P f w (h .1))
-    where
-      go : (t : Bool) → All P (filter Γ f w) → All P (filter-step Γ t a (filter Γ f w))
-      go true k = (h .0, k)
-      go false k = k
-
   pub part-all : (P : Letter → Type 0) (m : ℕ) (w : Word Γ) → All P w → All P (part Γ m w)
   unfolding part share
-  part-all P m w h = all-filter P (λ k. eqb (label Γ w k) m) w h
+  part-all P m w h = filter-all (λ a. eqb (label Γ w (cmd a)) m) P w h
 
   -- two words in which the same commands occur
   module _ (x y : Word Γ) (e : commands Γ x ≡ commands Γ y) where

@@ -3,8 +3,6 @@
 -- same name with Laws.
 pub mod Turn
 pub mod WordLaws
-pub mod Filter
-pub mod FilterLaws
 pub mod Settle
 pub mod SettleLaws
 pub mod Rotation

@@ -5,7 +5,7 @@ use mathlib.Core.Bool.{Bool, true, false}
 use mathlib.Core.List.{List, [], _∷_}
 use lib.Dec.{ltb, eqb}
 use Rattle.theory_words.specs.Alphabet.{Alphabet, Word}
-use Rattle.theory_conjugacy.specs.Filter.{filter}
+use Rattle.theory_words.specs.Filter.{filter}
 
 -- k is smaller than j or not, j is smaller than k or not, k put into what follows j
 unfoldable pub insert-step : Bool → Bool → ℕ → ℕ → List ℕ → List ℕ → List ℕ
@@ -17,15 +17,6 @@ insert-step false false k j js ks = j ∷ js
 unfoldable pub insert : ℕ → List ℕ → List ℕ
 insert k [] = k ∷ []
 insert k (j ∷ js) = insert-step (ltb k j) (ltb j k) k j js (insert k js)
-
-unfoldable pub chosen-step : Bool → ℕ → List ℕ → List ℕ
-chosen-step true k ks = k ∷ ks
-chosen-step false k ks = ks
-
--- the numbers that pass a test
-unfoldable pub chosen : (ℕ → Bool) → List ℕ → List ℕ
-chosen f [] = []
-chosen f (k ∷ ks) = chosen-step (f k) k (chosen f ks)
 
 unfoldable pub relabel-step : Bool → ℕ → ℕ → ℕ
 relabel-step true high l = high
@@ -70,11 +61,15 @@ module _ (Γ : Alphabet) where
 
   -- the labels in use: the commands that are their own label
   unfoldable pub apexes : Word Γ → List ℕ
-  apexes w = let lab = label w in chosen (λ k. eqb (lab k) k) (commands w)
+  apexes w = let lab = label w in filter (λ k. eqb (lab k) k) (commands w)
+
+  -- the letters of w whose commands pass a test
+  abbrev pub byCommand : (ℕ → Bool) → Word Γ → Word Γ
+  byCommand f = filter (λ a. f (cmd a))
 
   -- the letters of w whose command has the label m
   unfoldable pub share : (ℕ → ℕ) → ℕ → Word Γ → Word Γ
-  share lab m w = filter Γ (λ k. eqb (lab k) m) w
+  share lab m w = byCommand (λ k. eqb (lab k) m) w
 
   unfoldable pub part : ℕ → Word Γ → Word Γ
   part m w = share (label w) m w

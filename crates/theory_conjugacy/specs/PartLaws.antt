@@ -14,10 +14,10 @@ use Rattle.theory_words.specs.Alphabet.{Alphabet, Word}
 use Rattle.theory_words.specs.Trace as Trace
 use Rattle.theory_words.specs.Trace.{done, cons, next}
 use Rattle.theory_words.specs.TraceLaws.{~-refl, ~-before, Apart, apart-pass}
-use Rattle.theory_conjugacy.specs.Filter.{filter}
-use Rattle.theory_conjugacy.specs.FilterLaws.{filter-kept, filter-left}
-use Rattle.theory_conjugacy.specs.Part.{commands, labels, label, apexes, share, part, chosen}
-use Rattle.theory_conjugacy.specs.AscendingLaws.{_∈_, Ascending, chosen-in, in-chosen, chosen-ascending}
+use Rattle.theory_words.specs.Filter.{filter}
+use Rattle.theory_words.specs.FilterLaws.{filter-kept, filter-left, mem-filter, filter-mem}
+use Rattle.theory_conjugacy.specs.Part.{commands, labels, label, apexes, share, part}
+use Rattle.theory_conjugacy.specs.AscendingLaws.{_∈_, Ascending, filter-ascending}
 use Rattle.theory_conjugacy.specs.CommandLaws.{Occurs, now, later, occurs-in, in-occurs, commands-ascending}
 use Rattle.theory_conjugacy.specs.CommandLaws.{apart-occurs, occurs-filter, filter-occurs}
 use Rattle.theory_conjugacy.specs.LabelLaws.{labelled, labels-one}
@@ -76,7 +76,7 @@ module _ (Γ : Alphabet) where
   share-other : (lab : ℕ → ℕ) (m : ℕ) (a : Letter) (w : Word Γ) → lab (cmd a) ≢ m
       → share Γ lab m (a ∷ w) ≡ share Γ lab m w
   unfolding share
-  share-other lab m a w n = filter-left Γ (λ k. eqb (lab k) m) a w (ne-eqb (lab (cmd a)) m n)
+  share-other lab m a w n = filter-left (λ b. eqb (lab (cmd b)) m) a w (ne-eqb (lab (cmd a)) m n)
 
   shares-other : (lab : ℕ → ℕ) (ms : List ℕ) (a : Letter) (w : Word Γ) → All (λ m. lab (cmd a) ≢ m) ms
       → shares lab ms (a ∷ w) ≡ shares lab ms w
@@ -96,7 +96,7 @@ module _ (Γ : Alphabet) where
 
       front : lab (cmd a) ≡ m → (a ∷ x ++ shares lab ms w) ≡ shares lab (m ∷ ms) (a ∷ w)
       front e = rw (
-        filter-kept Γ (λ k. eqb (lab k) m) a w (eq-eqb (lab (cmd a)) m e),
+        filter-kept (λ b. eqb (lab (cmd b)) m) a w (eq-eqb (lab (cmd a)) m e),
         shares-other lab ms a w (all-map (λ j n d. n (sym e ∙ d)) ms (h .0)),
       )
 
@@ -136,7 +136,7 @@ module _ (Γ : Alphabet) where
 
   pub apexes-same : (v w : Word Γ) → commands Γ v ≡ commands Γ w → apexes Γ v ≡ apexes Γ w
   unfolding apexes label
-  apexes-same v w e = ap (λ (ks : List ℕ). chosen (λ k. eqb (labels Γ ks k) k) ks) e
+  apexes-same v w e = ap (λ (ks : List ℕ). filter (λ k. eqb (labels Γ ks k) k) ks) e
 
   pub part-share : (m : ℕ) (w : Word Γ) → part Γ m w ≡ share Γ (label Γ w) m w
   unfolding part
@@ -178,19 +178,19 @@ module _ (Γ : Alphabet) where
   pub apex-occurs : {m : ℕ} (w : Word Γ) → m ∈ apexes Γ w → Occurs Γ m (part Γ m w)
   unfolding apexes
   apex-occurs {m} w i =
-      let (j, t) = in-chosen (λ k. eqb (label Γ w k) k) (commands Γ w) i in
+      let (j, t) = filter-mem (λ k. eqb (label Γ w k) k) (commands Γ w) i in
       occurs-part (in-occurs Γ w j) (eqb-true (label Γ w m) m t)
 
   pub label-apex : {k : ℕ} {w : Word Γ} → Occurs Γ k w → label Γ w k ∈ apexes Γ w
   unfolding apexes label
   label-apex {k} {w} o =
       let h = labelled Γ (commands Γ w) in
-      chosen-in (λ k. eqb (label Γ w k) k) (commands Γ w) (h .inside k (occurs-in Γ o))
+      mem-filter (λ k. eqb (label Γ w k) k) (commands Γ w) (h .inside k (occurs-in Γ o))
       (eq-eqb (label Γ w (label Γ w k)) (label Γ w k) (h .own k (occurs-in Γ o)))
 
   pub apexes-ascending : (w : Word Γ) → Ascending (apexes Γ w)
   unfolding apexes
-  apexes-ascending w = chosen-ascending (λ k. eqb (label Γ w k) k) (commands Γ w) (commands-ascending Γ w)
+  apexes-ascending w = filter-ascending (λ k. eqb (label Γ w k) k) (commands Γ w) (commands-ascending Γ w)
 
   -- a word is the product of its parts
   pub parts-~ : (ms : List ℕ) (w : Word Γ) → Once ms → ((k : ℕ) → Occurs Γ k w → label Γ w k ∈ ms)

@@ -1,5 +1,6 @@
 -- Laws of cyclings and of cyclically reduced words.
 use mathlib.Core.Path.{_≡_, sym, _∙_, subst}
+use mathlib.Core.Bool.{Bool, true, false}
 use mathlib.Core.List.{[], _∷_, _++_, append-nil, append-assoc}
 use lib.ListN.{length, length-append}
 use native.Mathlib.Omega.{arith}
@@ -10,6 +11,8 @@ use Rattle.theory_words.specs.Group.{Reduced, undo}
 use Rattle.theory_words.specs.TraceLaws.{~-refl, ~-sym, ~-length, pick-front, pick-along, pick-after, first-along}
 use Rattle.theory_words.specs.TraceLaws.{not-first-nil, not-first-cons, Splits, early, late, pick-split}
 use Rattle.theory_words.specs.GroupLaws.{dep-inv-right, undo-onto, undo-append, ~-undo}
+use Rattle.theory_words.specs.Filter.{filter, keepIf}
+use Rattle.theory_words.specs.FilterLaws.{filter-append, filter-~}
 use Rattle.theory_words.specs.ReduceLaws.{reduced-along, reduced-append}
 use Rattle.theory_conjugacy.specs.WordLaws.{~-of-≡, pick-one}
 use Rattle.theory_conjugacy.specs.Turn.{Turns, same, turn, also, Tight, Round}
@@ -89,3 +92,16 @@ module _ (Γ : Alphabet) where
   -- document 01's test is enough
   pub tight-round : (x : Word Γ) → Reduced Γ x → Tight Γ x → Round Γ x
   tight-round x r t y s = both-turns s (r, t) .0
+
+  -- cyclings of a word, in the letters that pass a test
+  keepIf-turn : (t : Bool) (a : Letter) (w : Word Γ) → Turns Γ (keepIf t a w) (w ++ keepIf t a [])
+  unfolding keepIf
+  keepIf-turn true a w = turn
+  keepIf-turn false a w = turns-of-≡ (sym (append-nil w))
+
+  pub filter-turns : (f : Letter → Bool) {x y : Word Γ} → Turns Γ x y → Turns Γ (filter f x) (filter f y)
+  unfolding filter
+  filter-turns f (same e) = same (filter-~ Γ f e)
+  filter-turns f (turn {a = a} {z = z}) =
+      subst (Turns Γ (filter f (a ∷ z))) (sym (filter-append f z (a ∷ []))) (keepIf-turn (f a) a (filter f z))
+  filter-turns f (also s t) = also (filter-turns f s) (filter-turns f t)

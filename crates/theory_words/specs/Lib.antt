@@ -3,6 +3,7 @@
 pub mod BoolLaws
 pub mod Alike
 pub mod AlikeLaws
+pub mod Filter
 pub mod Alphabet
 pub mod All
 pub mod Trace
@@ -12,6 +13,7 @@ pub mod Normal
 pub mod Stack
 pub mod TraceLaws
 pub mod GroupLaws
+pub mod FilterLaws
 pub mod ReduceLaws
 pub mod NormalLaws
 pub mod StackLaws

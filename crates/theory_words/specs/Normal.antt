@@ -8,6 +8,7 @@ use lib.ListN.{length}
 use lib.Dec.{ltb}
 use Rattle.theory_words.specs.Alphabet.{Alphabet, Word}
 use Rattle.theory_words.specs.Trace.{First}
+use Rattle.theory_words.specs.Filter.{dropIf}
 use Rattle.theory_words.specs.Reduce.{without, reduce}
 
 module _ (Γ : Alphabet) where
@@ -22,14 +23,10 @@ module _ (Γ : Alphabet) where
   meets k [] = false
   meets k (j ∷ js) = meets-step (conf k j) (meets k js)
 
-  unfoldable pub firsts-step : Bool → Letter → Word Γ → Word Γ
-  firsts-step true a w = w
-  firsts-step false a w = a ∷ w
-
   -- the letters of w that can come first behind letters of the commands js
   unfoldable pub firsts : List ℕ → Word Γ → Word Γ
   firsts js [] = []
-  firsts js (a ∷ w) = firsts-step (meets (cmd a) js) a (firsts (cmd a ∷ js) w)
+  firsts js (a ∷ w) = dropIf (meets (cmd a) js) a (firsts (cmd a ∷ js) w)
 
   unfoldable pub least-step : Bool → Letter → Letter → Letter
   least-step true a b = a

@@ -4,21 +4,23 @@ use Prim.Native.Nat.{ℕ, zero, suc, _<_, _≤_}
 use native.Mathlib.Nat.{le-refl, le-trans}
 use native.Mathlib.Decide.{decLt}
 use native.Mathlib.Omega.{arith}
-use mathlib.Core.Path.{_≡_, refl, sym, _∙_, subst}
-use mathlib.Core.Bool.{Bool, true, false, true≢false}
+use mathlib.Core.Path.{_≡_, refl, sym, _∙_, ap, subst}
+use mathlib.Core.Bool.{Bool, true, false, not, true≢false}
 use mathlib.Core.Logic.{_⊎_, inl, inr, _↔_}
 use mathlib.Core.List.{List, [], _∷_, _++_, List·Memᴰ, List·Memᴰ·head, List·Memᴰ·tail}
 use mathlib.Core.Option.{some}
 use lib.ListN.{length}
 use lib.Dec.{ltb}
-use borrow.Author.Tests.{ltb-true, ltb-false}
+use borrow.Author.Tests.{ltb-true, ltb-false, not-true}
 use Rattle.theory_words.specs.All.{All, all-mem}
 use Rattle.theory_words.specs.Alphabet.{Alphabet, Word}
 use Rattle.theory_words.specs.Trace as Trace
 use Rattle.theory_words.specs.Trace.{Pick, here, there, First, done, cons, next}
 use Rattle.theory_words.specs.TraceLaws.{~-refl, ~-sym, ~-length, first-along, cons-cancel, first-eq}
 use Rattle.theory_words.specs.TraceLaws.{pick-front, pick-after, pick-length, Splits, early, late, pick-split}
-use Rattle.theory_words.specs.Normal.{Ordered, Smaller, at, on, nf, meets, meets-step, firsts, firsts-step, least}
+use Rattle.theory_words.specs.Filter.{keepIf}
+use Rattle.theory_words.specs.FilterLaws.{keepIf-cases, keepIf-tail, keepIf-head}
+use Rattle.theory_words.specs.Normal.{Ordered, Smaller, at, on, nf, meets, meets-step, firsts, least}
 use Rattle.theory_words.specs.Normal.{least-step, lex, lex-step, rest}
 use Rattle.theory_words.specs.ReduceLaws.{pick-without, reduced-along, reduced-~}
 use Rattle.theory_words.specs.ReduceLaws.{reduce-~, reduce-reduced, reduce-≈, reduce-least, shortest-~}
@@ -112,33 +114,17 @@ module _ (Γ : Alphabet) where
   unfolding meets-step
   meets-step-both d e = rw (d, e)
 
-  firsts-step-cases : {c : Letter} (t : Bool) (a : Letter) (x : Word Γ) → List·Memᴰ c (firsts-step Γ t a x)
-      → ((c ≡ a) × (t ≡ false)) ⊎ List·Memᴰ c x
-  unfolding firsts-step
-  firsts-step-cases true a x m = inr m
-  firsts-step-cases false a x (List·Memᴰ·head e) = inl (e, refl)
-  firsts-step-cases false a x (List·Memᴰ·tail m) = inr m
-
-  firsts-step-tail : {c : Letter} (t : Bool) (a : Letter) (x : Word Γ) → List·Memᴰ c x
-      → List·Memᴰ c (firsts-step Γ t a x)
-  unfolding firsts-step
-  firsts-step-tail true a x m = m
-  firsts-step-tail false a x m = List·Memᴰ·tail m
-
-  firsts-step-head : (a : Letter) (x : Word Γ) {t : Bool} → t ≡ false → List·Memᴰ a (firsts-step Γ t a x)
-  unfolding firsts-step
-  firsts-step-head a x e = rw e (List·Memᴰ·head refl)
-
   pub firsts-can : {c : Letter} (js : List ℕ) (w : Word Γ) → List·Memᴰ c (firsts Γ js w)
       → First Γ c w × (meets Γ (cmd c) js ≡ false)
   unfolding firsts meets
   firsts-can {c} js (a ∷ w) m =
-      go (firsts-step-cases (meets Γ (cmd a) js) a (firsts Γ (cmd a ∷ js) w) m) (firsts-can (cmd a ∷ js) w)
+      go (keepIf-cases (not (meets Γ (cmd a) js)) a (firsts Γ (cmd a ∷ js) w) m) (firsts-can (cmd a ∷ js) w)
     where
-      go : ((c ≡ a) × (meets Γ (cmd a) js ≡ false)) ⊎ List·Memᴰ c (firsts Γ (cmd a ∷ js) w)
+      go : ((c ≡ a) × (not (meets Γ (cmd a) js) ≡ true)) ⊎ List·Memᴰ c (firsts Γ (cmd a ∷ js) w)
           → (List·Memᴰ c (firsts Γ (cmd a ∷ js) w) → First Γ c w × (meets Γ (cmd c) (cmd a ∷ js) ≡ false))
           → First Γ c (a ∷ w) × (meets Γ (cmd c) js ≡ false)
-      go (inl (e, t)) ih = ((w, subst (λ (x : Letter). Pick Γ c (x ∷ w) w) e here), rw e t)
+      go (inl (e, t)) ih =
+          ((w, subst (λ (x : Letter). Pick Γ c (x ∷ w) w) e here), rw e (not-true (meets Γ (cmd a) js) t))
       go (inr k) ih =
           let ((r, p), t) = ih k in
           let (d, u) = meets-step-false (conf (cmd c) (cmd a)) (meets Γ (cmd c) js) t in
@@ -147,10 +133,10 @@ module _ (Γ : Alphabet) where
   pub firsts-has : {c : Letter} {w r : Word Γ} → Pick Γ c w r → (js : List ℕ) → meets Γ (cmd c) js ≡ false
       → List·Memᴰ c (firsts Γ js w)
   unfolding firsts meets
-  firsts-has {c} (here {w = w}) js t = firsts-step-head c (firsts Γ (cmd c ∷ js) w) t
+  firsts-has {c} (here {w = w}) js t = keepIf-head c (firsts Γ (cmd c ∷ js) w) refl (ap not t)
   firsts-has (there {b = b} {w = w} d p) js t =
       let js′ : List ℕ = cmd b ∷ js in
-      firsts-step-tail (meets Γ (cmd b) js) b (firsts Γ js′ w) (firsts-has p js′ (meets-step-both d t))
+      keepIf-tail (not (meets Γ (cmd b) js)) b (firsts Γ js′ w) (firsts-has p js′ (meets-step-both d t))
 
   -- `firsts [] w` holds exactly the letters that can come first in w
   pub firsts-exact : (c : Letter) (w : Word Γ) → List·Memᴰ c (firsts Γ [] w) ↔ First Γ c w
@@ -194,7 +180,7 @@ module _ (Γ : Alphabet) where
   -- the letter that `lex` takes: it can come first, and no smaller one can
   pub least-first : (b : Letter) (w : Word Γ)
       → First Γ (least Γ b (firsts Γ (cmd b ∷ []) w)) (b ∷ w) × Least (least Γ b (firsts Γ (cmd b ∷ []) w)) (b ∷ w)
-  unfolding firsts firsts-step meets
+  unfolding firsts keepIf meets
   least-first b w =
       let l : Least c (b ∷ w) = λ d f. all-mem P (b ∷ bs) (least-le b bs) (firsts-exact d (b ∷ w) .1 f) in
       (firsts-exact c (b ∷ w) .0 (least-mem b bs), l)
@@ -224,7 +210,7 @@ module _ (Γ : Alphabet) where
       (λ d f. l d (first-along Γ e f), sorts-ordered s)
 
   pub lex-sorts : (n : ℕ) (w : Word Γ) → length w ≡ n → Sorts w (lex Γ n w)
-  unfolding lex lex-step rest firsts firsts-step meets
+  unfolding lex lex-step rest firsts keepIf meets
   lex-sorts zero [] e = sorted
   lex-sorts zero (b ∷ w) e = absurd (omega arith)
   lex-sorts (suc n) [] e = absurd (omega arith)
