@@ -20,7 +20,7 @@ use Rattle.spec.specs.Plan.{isCommand, Passing}
 use Rattle.spec.specs.Byte.{commandOf}
 use Rattle.spec.specs.Letters.{letters, alphabet}
 use Rattle.spec_laws.specs.LettersLaws.{commands-range, letters-commands}
-use Rattle.spec.specs.Loops.{isEmpty, stillLow, unsettled, unsettledLine}
+use Rattle.spec.specs.Loops.{isEmpty, unsettled, unsettledLine}
 
 module _ (c : List ℕ) (n : ℕ) (x : List ℕ) (h : All (λ a. (1 ≤ commandOf a) × (commandOf a ≤ n)) x) where
   -- no part has more than n commands
@@ -37,7 +37,7 @@ module _ (c : List ℕ) (n : ℕ) (x : List ℕ) (h : All (λ a. (1 ≤ commandO
 
 module _ (c x : List ℕ) (h : All (λ a. (1 ≤ commandOf a) × (commandOf a ≤ Catalogue.commands c)) x) where
   none-unsettled : (ms : List ℕ) → Within ms (apexes (alphabet c) x) → unsettled c ms x ≡ false
-  unfolding unsettled stillLow isEmpty
+  unfolding unsettled isEmpty
   none-unsettled [] f = refl
   none-unsettled (m ∷ ms) f =
       rw (part-quiet c (Catalogue.commands c) x h (f m (List·Memᴰ·head refl)))

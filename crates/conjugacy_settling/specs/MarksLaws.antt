@@ -3,11 +3,11 @@ use Prim.Native.Nat.{ℕ, _+_, _-_, _<_, _≤_}
 use native.Mathlib.Omega.{arith}
 use mathlib.Core.Path.{_≡_, refl, sym, _∙_, ap}
 use mathlib.Core.Logic.{_⊎_, inl, inr}
-use mathlib.Core.Bool.{Bool, true, false, true≢false}
+use mathlib.Core.Bool.{Bool, true, false, _||_, true≢false}
 use mathlib.Core.List.{List, [], _∷_, List·Memᴰ, List·Memᴰ·head, List·Memᴰ·tail}
 use lib.ListN.{getD}
 use Rattle.theory_words.specs.All.{All, all-map}
-use Rattle.theory_words.specs.Normal.{meets, meets-step}
+use Rattle.theory_words.specs.Normal.{meets}
 use Rattle.spec.specs.Conflict.{conflict}
 use Rattle.input_conflicts.specs.Conflicts.{bit, Conflicts}
 use Rattle.spec.specs.AlphabetLaws.{conflict-refl, conflict-sym}
@@ -67,11 +67,11 @@ module _ {c : List ℕ} {rows : List (List ℕ)} (table : Conflicts c rows) wher
         table .tells (k - 1) j (omega arith) l ∙ ap (λ (i : ℕ). bit (conflict c i (j + 1))) e
 
     pub clear-meets : {s R : List ℕ} → Marks s R → Clear (getD rows (k - 1) []) s → meets (alphabet c) k R ≡ false
-    unfolding meets meets-step
+    unfolding meets
     clear-meets {s} {R} m f = go R (m .held)
       where
         step : (j : ℕ) (R : List ℕ) (t : Bool) → conflict c k j ≡ t → 1 ≤ j → j ≤ 24 → In s (j - 1)
-            → meets (alphabet c) k R ≡ false → meets-step (alphabet c) t (meets (alphabet c) k R) ≡ false
+            → meets (alphabet c) k R ≡ false → (t || meets (alphabet c) k R) ≡ false
         step j R true e l h o ih =
             let i : j - 1 + 1 ≡ j = omega arith in
             let b : getD (getD rows (k - 1) []) (j - 1) 0 ≡ 1 = line-at (j - 1) (omega arith) ∙ rw (i, e) refl in
@@ -83,11 +83,11 @@ module _ {c : List ℕ} {rows : List (List ℕ)} (table : Conflicts c rows) wher
         go (j ∷ R) ((l, h, o), hs) = step j R (conflict c k j) refl l h o (go R hs)
 
     meets-held : {j : ℕ} {R : List ℕ} → List·Memᴰ j R → conflict c k j ≡ true → meets (alphabet c) k R ≡ true
-    unfolding meets meets-step
+    unfolding meets
     meets-held {R = i ∷ R} (List·Memᴰ·head e) h = let b : conflict c k i ≡ true = rw e at h in rw b refl
     meets-held {R = i ∷ R} (List·Memᴰ·tail m) h = go (conflict c k i) (meets-held m h)
       where
-        go : (t : Bool) → meets (alphabet c) k R ≡ true → meets-step (alphabet c) t (meets (alphabet c) k R) ≡ true
+        go : (t : Bool) → meets (alphabet c) k R ≡ true → (t || meets (alphabet c) k R) ≡ true
         go true e = refl
         go false e = e
 

@@ -2,7 +2,7 @@
 -- answer, and the final bytes of its areas. Only the lead-in of two joined loops is left free.
 use Prim.Native.Nat.{ℕ, _+_, _*_, _≤_}
 use mathlib.Core.Path.{_≡_}
-use mathlib.Core.Bool.{Bool, true, false}
+use mathlib.Core.Bool.{Bool, true, false, not, _||_}
 use mathlib.Core.List.{List, [], _∷_, _++_}
 use mathlib.Core.Option.{Option, none, some}
 use lib.ListN.{length, drop}
@@ -25,16 +25,12 @@ unfoldable pub isEmpty : List ℕ → Bool
 isEmpty [] = true
 isEmpty (b ∷ v) = false
 
-unfoldable pub stillLow : Bool → Bool → Bool
-stillLow true b = b
-stillLow false b = true
-
 -- after N rounds some part of x, among those with these apexes, still has a letter before its apex letters
 unfoldable pub unsettled : List ℕ → List ℕ → List ℕ → Bool
 unsettled c [] x = false
 unsettled c (m ∷ ms) x =
-    stillLow (isEmpty (split (alphabet c) m [] (settled (alphabet c) m (commands c) (part (alphabet c) m x)) .0))
-    (unsettled c ms x)
+    not (isEmpty (split (alphabet c) m [] (settled (alphabet c) m (commands c) (part (alphabet c) m x)) .0))
+    || unsettled c ms x
 
 -- line 10: a part of the core of plan p is unsettled after N rounds
 abbrev pub unsettledLine : ℕ → List ℕ → List ℕ → Option Line

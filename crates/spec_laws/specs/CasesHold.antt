@@ -4,7 +4,7 @@ use native.Mathlib.Decide.{ℕ-discrete}
 use Rattle.spec.specs.Table.{firstOf}
 use Rattle.theory_words.specs.Alike.{alike?}
 use Rattle.theory_words.specs.Reduce.{without-step, without, act-step, act, reduce}
-use Rattle.theory_words.specs.Normal.{meets-step, meets, firsts, least-step, least, rest, lex-step, lex}
+use Rattle.theory_words.specs.Normal.{meets, firsts, least-step, least, rest, lex-step, lex}
 use Rattle.theory_words.specs.Normal.{nf}
 use Rattle.theory_conjugacy.specs.Core as Core
 use Rattle.theory_conjugacy.specs.Core.{without-last, between, pair-step, pair, peels-step, peels, core}
@@ -12,7 +12,7 @@ use Rattle.theory_conjugacy.specs.Part.{insert-step, insert, relabel-step, rela
 use Rattle.theory_conjugacy.specs.Part.{merge, merge-row, merge-all, labels, label, apexes, share, part}
 use Rattle.theory_conjugacy.specs.Part as Part
 use Rattle.theory_words.specs.Filter.{keepIf, filter}
-use Rattle.theory_conjugacy.specs.Settle.{hit, raise, put, split, settled-step, settled, ring}
+use Rattle.theory_conjugacy.specs.Settle.{hit, put, split, settled-step, settled, ring}
 use Rattle.theory_conjugacy.specs.Rotation.{agree-step, agree, search-step, search, rotation}
 use Rattle.theory_conjugacy.specs.Decision.{found?, settled-ring, part-ring, rotated?, parts-joined?}
 use Rattle.theory_conjugacy.specs.Decision.{cores-joined?, joined?}
@@ -29,11 +29,11 @@ _&_ : {A B : Type 0} → A → B → A × B
 a & b = (a, b)
 
 pub starred-hold : StarredCases
-unfolding firstOf without-step without act-step act reduce meets-step meets firsts least-step least rest
+unfolding firstOf without-step without act-step act reduce meets firsts least-step least rest
     lex-step lex nf ends follow stands conflict isCommand passes undone letters normalForm ℕ-discrete
     Core.undone without-last between pair-step pair peels-step peels core coreForm insert-step insert
     relabel-step relabel merge-step Part.commands merge merge-row merge-all labels label apexes share part hit
-    raise put split settled-step settled ring agree-step agree search-step search rotation alike? found? settled-ring
+    put split settled-step settled ring agree-step agree search-step search rotation alike? found? settled-ring
     part-ring rotated? parts-joined? cores-joined? joined? keepIf filter
 starred-hold =
     (refl, refl)

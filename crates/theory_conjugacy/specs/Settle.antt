@@ -8,6 +8,7 @@ use mathlib.Core.List.{List, [], _∷_, _++_}
 use lib.ListN.{length}
 use lib.Dec.{eqb}
 use Rattle.theory_words.specs.Alphabet.{Alphabet, Word}
+use Rattle.theory_words.specs.Filter.{keepIf}
 use Rattle.theory_words.specs.Normal.{meets, lex}
 
 module _ (Γ : Alphabet) (m : ℕ) where
@@ -17,10 +18,6 @@ module _ (Γ : Alphabet) (m : ℕ) where
   unfoldable pub hit : List ℕ → Letter → Bool
   hit R b = eqb (cmd b) m || meets Γ (cmd b) R
 
-  unfoldable pub raise : Bool → ℕ → List ℕ → List ℕ
-  raise true k R = k ∷ R
-  raise false k R = R
-
   unfoldable pub put : Bool → Letter → Word Γ × Word Γ → Word Γ × Word Γ
   put true b s = (s .0, b ∷ s .1)
   put false b s = (b ∷ s .0, s .1)
@@ -28,7 +25,7 @@ module _ (Γ : Alphabet) (m : ℕ) where
   -- p0 and p1, in one scan; R holds the commands raised so far
   unfoldable pub split : List ℕ → Word Γ → Word Γ × Word Γ
   split R [] = ([], [])
-  split R (b ∷ w) = put (hit R b) b (split (raise (hit R b) (cmd b) R) w)
+  split R (b ∷ w) = put (hit R b) b (split (keepIf (hit R b) (cmd b) R) w)
 
   -- the word reached after at most n rounds
   unfoldable pub settled-step : Word Γ → Word Γ → Word Γ → (Word Γ → Word Γ) → Word Γ

@@ -14,10 +14,11 @@ use Rattle.theory_words.specs.All.{All, all-map}
 use Rattle.theory_words.specs.Trace as Trace
 use Rattle.theory_words.specs.Trace.{here, there, First, done, cons, next}
 use Rattle.theory_words.specs.TraceLaws.{dep-sym, ~-sym, first-along, Apart, apart-pass}
-use Rattle.theory_words.specs.Normal.{meets, meets-step}
+use Rattle.theory_words.specs.Filter.{keepIf}
+use Rattle.theory_words.specs.Normal.{meets}
 use Rattle.theory_conjugacy.specs.Turn.{Turns, same, also}
 use Rattle.theory_conjugacy.specs.TurnLaws.{turns-refl, turns-rotate}
-use Rattle.theory_conjugacy.specs.Settle.{hit, raise, put, split, settled, settled-step, cycled, cycled-step}
+use Rattle.theory_conjugacy.specs.Settle.{hit, put, split, settled, settled-step, cycled, cycled-step}
 use Rattle.theory_conjugacy.specs.Settle.{Split, stop, up, low, Rounded, quiet, round}
 
 -- three tests, the first two in either order
@@ -43,16 +44,9 @@ module _ (Γ : Alphabet) (m : ℕ) where
 
   -- the test
 
-  meets-or : (a b : Bool) → meets-step Γ a b ≡ (a || b)
-  unfolding meets-step
-  meets-or true b = refl
-  meets-or false b = refl
-
   pub hit-cons : (k : ℕ) (R : List ℕ) (b : Letter) → hit Γ m (k ∷ R) b ≡ (conf (cmd b) k || hit Γ m R b)
   unfolding hit meets
-  hit-cons k R b =
-      ap (λ (t : Bool). eqb (cmd b) m || t) (meets-or (conf (cmd b) k) (meets Γ (cmd b) R))
-      ∙ or-swap (eqb (cmd b) m) (conf (cmd b) k) (meets Γ (cmd b) R)
+  hit-cons k R b = or-swap (eqb (cmd b) m) (conf (cmd b) k) (meets Γ (cmd b) R)
 
   -- a command that b does not conflict with makes no difference
   pub hit-past : (k : ℕ) (R : List ℕ) (b : Letter) → conf (cmd b) k ≡ false → hit Γ m (k ∷ R) b ≡ hit Γ m R b
@@ -134,19 +128,19 @@ module _ (Γ : Alphabet) (m : ℕ) where
   -- the function computes the relation, which has one result
 
   pub split-splits : (R : List ℕ) (w : Word Γ) → Split Γ m R w (split Γ m R w .0) (split Γ m R w .1)
-  unfolding split put raise
+  unfolding split put keepIf
   split-splits R [] = stop
-  split-splits R (b ∷ w) = go (hit Γ m R b) refl (split-splits (raise Γ m (hit Γ m R b) (cmd b) R) w)
+  split-splits R (b ∷ w) = go (hit Γ m R b) refl (split-splits (keepIf (hit Γ m R b) (cmd b) R) w)
     where
       go : (t : Bool) → hit Γ m R b ≡ t
-          → (let s = split Γ m (raise Γ m t (cmd b) R) w in Split Γ m (raise Γ m t (cmd b) R) w (s .0) (s .1))
-          → (let s = put Γ m t b (split Γ m (raise Γ m t (cmd b) R) w) in Split Γ m R (b ∷ w) (s .0) (s .1))
+          → (let s = split Γ m (keepIf t (cmd b) R) w in Split Γ m (keepIf t (cmd b) R) w (s .0) (s .1))
+          → (let s = put Γ m t b (split Γ m (keepIf t (cmd b) R) w) in Split Γ m R (b ∷ w) (s .0) (s .1))
       go true h s = up h s
       go false h s = low h s
 
   pub split-unique : {R : List ℕ} {w p q : Word Γ} → Split Γ m R w p q
       → (split Γ m R w .0 ≡ p) × (split Γ m R w .1 ≡ q)
-  unfolding split put raise
+  unfolding split put keepIf
   split-unique stop = (refl, refl)
   split-unique (up {b = b} h s) = let (e, f) = split-unique s in (rw h e, rw h (ap (λ (x : Word Γ). b ∷ x) f))
   split-unique (low {b = b} h s) = let (e, f) = split-unique s in (rw h (ap (λ (x : Word Γ). b ∷ x) e), rw h f)

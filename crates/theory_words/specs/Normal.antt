@@ -1,7 +1,7 @@
 -- The normal form of a word, computed: reduce it, then take, at each place, the letter of the smallest command that no
 -- conflicting command precedes among those left. And the order in which it is the first.
 use Prim.Native.Nat.{ℕ, zero, suc, _<_, _≤_}
-use mathlib.Core.Bool.{Bool, true, false}
+use mathlib.Core.Bool.{Bool, true, false, _||_}
 use mathlib.Core.List.{List, [], _∷_}
 use mathlib.Core.Option.{Option, none, some}
 use lib.ListN.{length}
@@ -15,13 +15,9 @@ module _ (Γ : Alphabet) where
   open Alphabet Γ using (Letter, cmd, conf)
 
   -- does command k conflict with one of these commands
-  unfoldable pub meets-step : Bool → Bool → Bool
-  meets-step true b = true
-  meets-step false b = b
-
   unfoldable pub meets : ℕ → List ℕ → Bool
   meets k [] = false
-  meets k (j ∷ js) = meets-step (conf k j) (meets k js)
+  meets k (j ∷ js) = conf k j || meets k js
 
   -- the letters of w that can come first behind letters of the commands js
   unfoldable pub firsts : List ℕ → Word Γ → Word Γ

@@ -5,13 +5,14 @@ use native.Mathlib.Nat.{le-refl, le-trans}
 use native.Mathlib.Decide.{decLt}
 use native.Mathlib.Omega.{arith}
 use mathlib.Core.Path.{_≡_, refl, sym, _∙_, ap, subst}
-use mathlib.Core.Bool.{Bool, true, false, not, true≢false}
+use mathlib.Core.Bool.{Bool, true, false, not}
 use mathlib.Core.Logic.{_⊎_, inl, inr, _↔_}
 use mathlib.Core.List.{List, [], _∷_, _++_, List·Memᴰ, List·Memᴰ·head, List·Memᴰ·tail}
 use mathlib.Core.Option.{some}
 use lib.ListN.{length}
 use lib.Dec.{ltb}
 use borrow.Author.Tests.{ltb-true, ltb-false, not-true}
+use Rattle.theory_words.specs.BoolLaws.{or-neither}
 use Rattle.theory_words.specs.All.{All, all-mem}
 use Rattle.theory_words.specs.Alphabet.{Alphabet, Word}
 use Rattle.theory_words.specs.Trace as Trace
@@ -20,7 +21,7 @@ use Rattle.theory_words.specs.TraceLaws.{~-refl, ~-sym, ~-length, first-
 use Rattle.theory_words.specs.TraceLaws.{pick-front, pick-after, pick-length, Splits, early, late, pick-split}
 use Rattle.theory_words.specs.Filter.{keepIf}
 use Rattle.theory_words.specs.FilterLaws.{keepIf-cases, keepIf-tail, keepIf-head}
-use Rattle.theory_words.specs.Normal.{Ordered, Smaller, at, on, nf, meets, meets-step, firsts, least}
+use Rattle.theory_words.specs.Normal.{Ordered, Smaller, at, on, nf, meets, firsts, least}
 use Rattle.theory_words.specs.Normal.{least-step, lex, lex-step, rest}
 use Rattle.theory_words.specs.ReduceLaws.{pick-without, reduced-along, reduced-~}
 use Rattle.theory_words.specs.ReduceLaws.{reduce-~, reduce-reduced, reduce-≈, reduce-least, shortest-~}
@@ -105,15 +106,6 @@ module _ (Γ : Alphabet) where
 
   -- the letters that can come first, as `firsts` finds them
 
-  meets-step-false : (a b : Bool) → meets-step Γ a b ≡ false → (a ≡ false) × (b ≡ false)
-  unfolding meets-step
-  meets-step-false true b e = absurd (true≢false e)
-  meets-step-false false b e = (refl, e)
-
-  meets-step-both : {a b : Bool} → a ≡ false → b ≡ false → meets-step Γ a b ≡ false
-  unfolding meets-step
-  meets-step-both d e = rw (d, e)
-
   pub firsts-can : {c : Letter} (js : List ℕ) (w : Word Γ) → List·Memᴰ c (firsts Γ js w)
       → First Γ c w × (meets Γ (cmd c) js ≡ false)
   unfolding firsts meets
@@ -127,7 +119,7 @@ module _ (Γ : Alphabet) where
           ((w, subst (λ (x : Letter). Pick Γ c (x ∷ w) w) e here), rw e (not-true (meets Γ (cmd a) js) t))
       go (inr k) ih =
           let ((r, p), t) = ih k in
-          let (d, u) = meets-step-false (conf (cmd c) (cmd a)) (meets Γ (cmd c) js) t in
+          let (d, u) = or-neither (conf (cmd c) (cmd a)) (meets Γ (cmd c) js) t in
           ((a ∷ r, there d p), u)
 
   pub firsts-has : {c : Letter} {w r : Word Γ} → Pick Γ c w r → (js : List ℕ) → meets Γ (cmd c) js ≡ false
@@ -136,7 +128,7 @@ module _ (Γ : Alphabet) where
   firsts-has {c} (here {w = w}) js t = keepIf-head c (firsts Γ (cmd c ∷ js) w) refl (ap not t)
   firsts-has (there {b = b} {w = w} d p) js t =
       let js′ : List ℕ = cmd b ∷ js in
-      keepIf-tail (not (meets Γ (cmd b) js)) b (firsts Γ js′ w) (firsts-has p js′ (meets-step-both d t))
+      keepIf-tail (not (meets Γ (cmd b) js)) b (firsts Γ js′ w) (firsts-has p js′ (rw (d, t)))
 
   -- `firsts [] w` holds exactly the letters that can come first in w
   pub firsts-exact : (c : Letter) (w : Word Γ) → List·Memᴰ c (firsts Γ [] w) ↔ First Γ c w
