@@ -15,7 +15,7 @@ use Rattle.input_catalogue.specs.declared.Checked.the-variants.{Refused, Passed
 use Rattle.conjugacy_of_parts.specs.declared.Outcome.{Outcome}
 use Rattle.conjugacy_of_plans.specs.Join as Join
 use Rattle.conjugacy_of_plans.specs.Join.{Plans, Told}
-use Rattle.conjugacy_of_plans.specs.UnsettledLaws.{never-unsettled}
+use Rattle.spec_laws.specs.UnsettledLaws.{never-unsettled}
 use Rattle.input_checks.specs.Entry.{TwoPlans, twoLines, SameRefusal}
 use Rattle.input_checks.specs.EntryLaws.{entered-none, entered-some, entered-commands}
 use Rattle.spec.specs.Calls.{areaLine}

@@ -1,4 +1,3 @@
-pub mod UnsettledLaws
 pub mod CoresLaws
 pub mod SpanLaws
 pub mod VerdictLaws

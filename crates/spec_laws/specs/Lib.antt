@@ -13,6 +13,7 @@ pub mod NormalFormLaws
 pub mod JoinLaws
 pub mod CallLaws
 pub mod LoopLaws
+pub mod UnsettledLaws
 pub mod CodeLaws
 pub mod DemandsMet
 pub mod CasesHold

@@ -19,10 +19,10 @@ use Rattle.theory_words.specs.FilterLaws.{filter-all}
 use Rattle.theory_conjugacy.specs.Part.{commands, label, apexes, share, part}
 use Rattle.theory_conjugacy.specs.AscendingLaws.{_∈_, Within}
 use Rattle.theory_conjugacy.specs.CommandLaws.{Occurs, occurs-nil, occurs-split, occurs-all, all-occurs}
-use Rattle.theory_conjugacy.specs.CommandLaws.{same-covers, commands-bounded}
+use Rattle.theory_conjugacy.specs.CommandLaws.{same-covers}
 use Rattle.theory_conjugacy.specs.PartLaws.{Once, Independent, independent-swap, independent-sym, label-parting}
 use Rattle.theory_conjugacy.specs.PartLaws.{shares, share-occurs, label-same, apexes-same, part-share}
-use Rattle.theory_conjugacy.specs.PartLaws.{part-occurs}
+use Rattle.theory_conjugacy.specs.PartLaws.{part-occurs, part-bounded}
 use Rattle.theory_conjugacy.specs.Decision.{part-ring, rotated?, parts-joined?}
 use Rattle.theory_conjugacy.specs.LeadIn.{part-lead, parts-lead}
 use Rattle.theory_conjugacy.specs.LeadInLaws.{Apical, apical-part, part-lead-conj, parts-length, part-lead-length}
@@ -143,8 +143,8 @@ module _ (Γ : Alphabet) where
         let q = part Γ m y in
         let a = apical-part Γ x i in
         let b = apical-second i in
-        let g = commands-bounded Γ (suc n) p (λ k o. f k (part-occurs Γ m x o .0)) in
-        let h = commands-bounded Γ (suc n) q (λ k o. f k (back-covers k (part-occurs Γ m y o .0))) in
+        let g = part-bounded Γ (suc n) x f m in
+        let h = part-bounded Γ (suc n) y (λ k o. f k (back-covers k o)) m in
         let d : 2 * suc n ≡ (2 * n + 1) + 1 = omega arith in
         omega (
           arith,

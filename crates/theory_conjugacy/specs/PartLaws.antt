@@ -5,6 +5,7 @@ use mathlib.Core.Path.{_≡_, refl, sym, _∙_, ap, subst}
 use mathlib.Core.Bool.{Bool, true, false}
 use mathlib.Core.List.{List, [], _∷_, _++_, append-nil, List·Memᴰ·head, List·Memᴰ·tail, List·Memᴰ·not-nil}
 use mathlib.Core.Logic.{_≢_}
+use lib.ListN.{length}
 use lib.Dec.{eqb}
 use borrow.Author.Tests.{eqb-true, eq-eqb, ne-eqb}
 use native.Mathlib.Omega.{arith}
@@ -19,7 +20,7 @@ use Rattle.theory_words.specs.FilterLaws.{filter-kept, filter-left, mem-filter,
 use Rattle.theory_conjugacy.specs.Part.{commands, labels, label, apexes, share, part}
 use Rattle.theory_conjugacy.specs.AscendingLaws.{_∈_, Ascending, filter-ascending}
 use Rattle.theory_conjugacy.specs.CommandLaws.{Occurs, now, later, occurs-in, in-occurs, commands-ascending}
-use Rattle.theory_conjugacy.specs.CommandLaws.{apart-occurs, occurs-filter, filter-occurs}
+use Rattle.theory_conjugacy.specs.CommandLaws.{apart-occurs, occurs-filter, filter-occurs, commands-bounded}
 use Rattle.theory_conjugacy.specs.LabelLaws.{labelled, labels-one}
 
 -- no number stands twice
@@ -145,6 +146,11 @@ module _ (Γ : Alphabet) where
   pub part-occurs : (m : ℕ) {k : ℕ} (w : Word Γ) → Occurs Γ k (part Γ m w) → Occurs Γ k w × (label Γ w k ≡ m)
   unfolding part
   part-occurs m w o = share-occurs (label Γ w) m w o
+
+  -- no part has more than n commands where all are among 1 to n
+  pub part-bounded : (n : ℕ) (w : Word Γ) → ((k : ℕ) → Occurs Γ k w → (1 ≤ k) × (k ≤ n)) → (m : ℕ)
+      → length (commands Γ (part Γ m w)) ≤ n
+  part-bounded n w f m = commands-bounded Γ n (part Γ m w) (λ k o. f k (part-occurs m w o .0))
 
   pub occurs-part : {m k : ℕ} {w : Word Γ} → Occurs Γ k w → label Γ w k ≡ m → Occurs Γ k (part Γ m w)
   unfolding part

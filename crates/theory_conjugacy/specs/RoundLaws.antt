@@ -11,14 +11,15 @@ use lib.ListN.{length, length-append}
 use Rattle.theory_words.specs.Alphabet.{Alphabet, Word}
 use Rattle.theory_words.specs.Trace as Trace
 use Rattle.theory_words.specs.TraceLaws.{~-sym, ~-length}
-use Rattle.theory_conjugacy.specs.Part.{commands}
+use Rattle.theory_conjugacy.specs.Part.{commands, apexes, part}
 use Rattle.theory_conjugacy.specs.Settle.{split, settled, Split, stop, up, low, Rounded, quiet, round}
 use Rattle.theory_conjugacy.specs.SettleLaws.{split-~, split-splits, split-unique, split-free, split-apart}
 use Rattle.theory_conjugacy.specs.SettleLaws.{split-upper, rounded-settled}
+use Rattle.theory_conjugacy.specs.AscendingLaws.{_∈_}
 use Rattle.theory_conjugacy.specs.CommandLaws.{Occurs, now, later, occurs-nil, occurs-left, occurs-right}
 use Rattle.theory_conjugacy.specs.CommandLaws.{occurs-split, occurs-along, occurs-swap, occurs?, occurs-apart}
 use Rattle.theory_conjugacy.specs.CommandLaws.{occurs-length, all-occurs, Covers, covers-shorter}
-use Rattle.theory_conjugacy.specs.PartLaws.{Connected, Independent}
+use Rattle.theory_conjugacy.specs.PartLaws.{Connected, Independent, part-connected, apex-occurs}
 
 module _ (Γ : Alphabet) where
   open Alphabet Γ using (Letter, cmd, conf)
@@ -171,6 +172,11 @@ module _ (Γ : Alphabet) (m : ℕ) where
   settled-quiet w h a k l =
       let (n, g, r, o, f) = rounded w h a in
       rw (rounded-settled Γ m o k (omega arith) .0) (rounded-quiet o)
+
+  -- so a part is settled after as many rounds as it has commands
+  pub part-quiet : (x : Word Γ) → m ∈ apexes Γ x → (k : ℕ) → length (commands Γ (part Γ m x)) ≤ k
+      → split Γ m [] (settled Γ m k (part Γ m x)) .0 ≡ []
+  part-quiet x i k l = settled-quiet (part Γ m x) (part-connected Γ m x) (apex-occurs Γ x i) k (omega arith)
 
   -- each round cycles fewer letters than the word has
   pub rounded-length : {n : ℕ} {w g r : Word Γ} → Occurs Γ m w → Rounded Γ m n w g r → length g + n ≤ n * length w
