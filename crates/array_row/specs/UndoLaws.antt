@@ -83,11 +83,11 @@ exchange-one head tail a i k h e =
     rw (getD-at head a tail 0 i h, getD-at head a tail 0 k n, set-at head a tail (undone a) i h)
     (set-at head (undone a) tail (undone a) k n ∙ sym (append-snoc head (undone a) tail))
 
-turn : {goal row : List ℕ} {i j : ℕ} (head mid tail : List ℕ) → row ≡ head ++ (mid ++ tail) → length head ≡ i
+turning-step : {goal row : List ℕ} {i j : ℕ} (head mid tail : List ℕ) → row ≡ head ++ (mid ++ tail) → length head ≡ i
     → length mid ≡ j - i → goal ≡ head ++ undoBy undone mid tail → i < j
     → Turning goal (exchanged row i (j - 1)) (i + 1) (j - 1)
-turn head [] tail p h l r lt = absurd (omega arith)
-turn {i = i} {j} head (a ∷ []) tail p h l r lt = record {
+turning-step head [] tail p h l r lt = absurd (omega arith)
+turning-step {i = i} {j} head (a ∷ []) tail p h l r lt = record {
   head = head ++ undone a ∷ [];
   mid = [];
   tail = tail;
@@ -96,7 +96,7 @@ turn {i = i} {j} head (a ∷ []) tail p h l r lt = record {
   left = omega arith;
   rest = r ∙ sym (append-snoc head (undone a) tail);
 }
-turn {i = i} {j} head (a ∷ b ∷ w) tail p h l r lt =
+turning-step {i = i} {j} head (a ∷ b ∷ w) tail p h l r lt =
     let s = snoc b w in
     let f = s .front in
     let e = s .whole in
@@ -142,7 +142,7 @@ module _ {goal row : List ℕ} {i j : ℕ} (t : Turning goal row i j) where
   )
 
   pub turning-again : i < j → Turning goal (exchanged row i (j - 1)) (i + 1) (j - 1)
-  turning-again h = turn (t .head) (t .mid) (t .tail) (t .parts) (t .first) (t .left) (t .rest) h
+  turning-again h = turning-step (t .head) (t .mid) (t .tail) (t .parts) (t .first) (t .left) (t .rest) h
 
   pub turning-end : (i < j → ⊥) → row ≡ goal
   turning-end h = go (t .mid) (t .left) (t .parts) (t .rest)

@@ -12,7 +12,7 @@ use Rattle.spec.specs.Letters.{normalForm}
 use Rattle.input_checks.specs.Entry.{TwoPlans, SameRefusal}
 use Rattle.input_checks.specs.EntryLaws.{entered-none, entered-some}
 use Rattle.spec.specs.Calls.{equalAnswer}
-use Rattle.spec_laws.specs.CallLaws.{compared}
+use Rattle.spec_laws.specs.CallLaws.{exact-alike}
 
 module _ {c v w : List ℕ} {rows : List (List ℕ)} {r : Checked} (d : TwoPlans c v w rows r) where
   pub equal-refused : {t : Answer Bool} {f : Refusal} → r ≡ Refused f → SameRefusal r t → t ≡ equalAnswer c v w
@@ -22,4 +22,4 @@ module _ {c v w : List ℕ} {rows : List (List ℕ)} {r : Checked} (d : TwoPlans
   pub equal-told : {n : ℕ} {a b : Bool} → r ≡ Passed n → b ≡ a → (b ≡ true) ↔ (normalForm c v ≡ normalForm c w)
       → given a ≡ equalAnswer c v w
   equal-told {b = b} e h k =
-      rw (entered-none d e) (ap given (sym h ∙ compared b (normalForm c v) (normalForm c w) k))
+      rw (entered-none d e) (ap given (sym h ∙ exact-alike b (normalForm c v) (normalForm c w) k))

@@ -18,7 +18,7 @@ use Rattle.input_checks.specs.Entry.{ThreePlans, threeLines, SameRefusal}
 use Rattle.input_checks.specs.EntryLaws.{entered-none, entered-some}
 use Rattle.spec.specs.Answers as Answers
 use Rattle.spec.specs.Calls.{areaLine}
-use Rattle.spec_laws.specs.CallLaws.{compared}
+use Rattle.spec_laws.specs.CallLaws.{exact-alike}
 use Rattle.spec.specs.Loops.{checkLines, checkAnswer, checkArea0, checkArea1}
 
 -- the answer t and both areas afterwards
@@ -80,7 +80,7 @@ module _ {c v w : List ℕ} (u : List ℕ) {rows : List (List ℕ)} {r : Checked
             → t ≡ given (record { yes = b .same; vu = b .vu; uw = b .uw })
             → CheckOutcome c v w u area0 area1 t after0 after1
         check-told {b} {after0} {after1} k j =
-            let s = compared (b .same) (normalForm c (v ++ u)) (normalForm c (u ++ w)) (k .same) in
+            let s = exact-alike (b .same) (normalForm c (v ++ u)) (normalForm c (u ++ w)) (k .same) in
             let z : firstLine (checkLines c v w u area0 area1) ≡ none =
             late ∙ rw (le-ltb (length area0) (length v + length u) h, le-ltb (length area1) (length u + length w) i) in
             rw z (

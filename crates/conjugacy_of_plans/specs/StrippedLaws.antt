@@ -20,7 +20,7 @@ use Rattle.theory_conjugacy.specs.Core.{core}
 use Rattle.theory_conjugacy.specs.CoreLaws.{core-reduced, core-conj, core-length, core-all}
 use Rattle.theory_conjugacy.specs.ConjugateLaws.{conjugate-cores}
 use Rattle.theory_conjugacy.specs.Decision.{cores-joined?, joined?}
-use Rattle.theory_conjugacy.specs.DecisionLaws.{bound, none-occur, conjugate-joined}
+use Rattle.theory_conjugacy.specs.DecisionLaws.{lead-in-bound, none-occur, conjugate-joined}
 use Rattle.spec.specs.Catalogue.{commands}
 use Rattle.spec.specs.Plan.{isCommand, Passing}
 use Rattle.spec_laws.specs.CommandLaws.{isCommand-undone}
@@ -125,7 +125,7 @@ module _ (c : List ℕ) where
 
       pub through-room : length t ≤ commands c * ((2 * length g + length x) + (2 * length h + length y))
       through-room =
-          let b = bound (commands c) (length g) (length h) (length x) (2 * length g + length x)
+          let b = lead-in-bound (commands c) (length g) (length h) (length x) (2 * length g + length x)
           (2 * length h + length y) (length u) no-letters (omega arith) (omega (arith, same-length)) (q .short) in
           omega (arith, b, through-count (alphabet c) g u h)
 

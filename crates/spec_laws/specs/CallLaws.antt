@@ -38,6 +38,6 @@ few-commands c e =
     ltb-false 24 (commands c) (holds-none (ltb 24 (commands c)) (line 2 0 0) (h .1 .0))
 
 -- a comparison that is exact gives the answer that the definition computes
-pub compared : (b : Bool) (v w : List ℕ) → (b ≡ true) ↔ (v ≡ w) → b ≡ alike? v w
-compared b v w h =
+pub exact-alike : (b : Bool) (v w : List ℕ) → (b ≡ true) ↔ (v ≡ w) → b ≡ alike? v w
+exact-alike b v w h =
     true-same b (alike? v w) (λ e. alike-exact v w .1 (h .0 e)) (λ e. h .1 (alike-exact v w .0 e))

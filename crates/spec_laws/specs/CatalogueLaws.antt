@@ -78,10 +78,10 @@ module _ (c : List ℕ) where
       ap (λ l. command c (suc i) ∷ l) (follow-more n m (next c (suc i)) (omega arith) e)
 
   -- a chain that ends does so at once or in a last step
-  last-step : (n i : ℕ) → ends c n i ≡ true
+  ends-last : (n i : ℕ) → ends c n i ≡ true
       → (ends c 0 i ≡ true) ⊎ ((m : ℕ) × (ends c m i ≡ false) × (ends c (suc m) i ≡ true))
-  last-step zero i e = inl e
-  last-step (suc n) i e = go (ends c n i) refl (last-step n i)
+  ends-last zero i e = inl e
+  ends-last (suc n) i e = go (ends c n i) refl (ends-last n i)
     where
       go : (t : Bool) → ends c n i ≡ t
           → (ends c n i ≡ true → (ends c 0 i ≡ true) ⊎ ((m : ℕ) × (ends c m i ≡ false) × (ends c (suc m) i ≡ true)))
@@ -91,29 +91,30 @@ module _ (c : List ℕ) where
 
   module _ (nexts : (j : ℕ) → 1 ≤ j → j ≤ records c → next c j ≤ records c) where
     -- a record that ends in step m + 1 and not before is one more
-    one-more : (m i : ℕ) → 1 ≤ i → i ≤ records c → ends c m i ≡ false → ends c (suc m) i ≡ true
+    ends-count-more : (m i : ℕ) → 1 ≤ i → i ≤ records c → ends c m i ≡ false → ends c (suc m) i ≡ true
         → count (ends c m) (records c) < count (ends c (suc m)) (records c)
-    one-more m i = count-more (ends c m) (ends c (suc m)) (λ j. ends-more m (suc m) j (omega arith)) (records c) i
+    ends-count-more m i =
+        count-more (ends c m) (ends c (suc m)) (λ j. ends-more m (suc m) j (omega arith)) (records c) i
 
     -- each record on the way is one more, so those that end within m + 1 steps are more than m
-    grown : (m i : ℕ) → i ≤ records c → ends c m i ≡ false → ends c (suc m) i ≡ true
+    ends-count : (m i : ℕ) → i ≤ records c → ends c m i ≡ false → ends c (suc m) i ≡ true
         → m < count (ends c (suc m)) (records c)
     unfolding ends
-    grown zero zero h f t = absurd (true≢false f)
-    grown zero (suc i) h f t = omega (arith, one-more zero (suc i) (omega arith) h f t)
-    grown (suc m) zero h f t = absurd (true≢false f)
-    grown (suc m) (suc i) h f t =
-        let g = grown m (next c (suc i)) (nexts (suc i) (omega arith) h) f t in
-        omega (arith, g, one-more (suc m) (suc i) (omega arith) h f t)
+    ends-count zero zero h f t = absurd (true≢false f)
+    ends-count zero (suc i) h f t = omega (arith, ends-count-more zero (suc i) (omega arith) h f t)
+    ends-count (suc m) zero h f t = absurd (true≢false f)
+    ends-count (suc m) (suc i) h f t =
+        let g = ends-count m (next c (suc i)) (nexts (suc i) (omega arith) h) f t in
+        omega (arith, g, ends-count-more (suc m) (suc i) (omega arith) h f t)
 
     pub ends-within : (n i : ℕ) → i ≤ records c → ends c n i ≡ true → ends c (records c) i ≡ true
-    ends-within n i h e = go (last-step n i e)
+    ends-within n i h e = go (ends-last n i e)
       where
         go : (ends c 0 i ≡ true) ⊎ ((m : ℕ) × (ends c m i ≡ false) × (ends c (suc m) i ≡ true))
             → ends c (records c) i ≡ true
         go (inl r) = ends-more 0 (records c) i (omega arith) r
         go (inr w) =
-            let g = grown (w .0) i h (w .1) (w .2) in
+            let g = ends-count (w .0) i h (w .1) (w .2) in
             ends-more (suc (w .0)) (records c) i (omega (arith, g, count-most (ends c (suc (w .0))) (records c))) (w .2)
 
     -- R records are enough: a chain that has not ended then never ends

@@ -3,8 +3,9 @@ use Prim.Native.Nat.{ℕ}
 use mathlib.Core.Path.{_≡_, sym, _∙_, ap, subst₂}
 use mathlib.Core.Bool.{true}
 use mathlib.Core.List.{List, [], _∷_, _++_}
-use mathlib.Core.Logic.{_↔_}
+use mathlib.Core.Logic.{_↔_, _⊎_, inl, inr}
 use native.Mathlib.Omega.{arith}
+use lib.Dec.{eqb}
 use borrow.Author.Tests.{eqb-true}
 use Rattle.theory_words.specs.Group as Group
 use Rattle.theory_words.specs.Group.{conj, undoBy}
@@ -20,7 +21,6 @@ use Rattle.spec_laws.specs.LettersLaws.{letters-commands, letters-undone
 use Rattle.spec.specs.Step.{Equal}
 use Rattle.spec_laws.specs.StepLaws.{equal-exact, equal-words, equal-left, kept, kept-commands, kept-same}
 use Rattle.spec_laws.specs.StepLaws.{kept-equal, kept-passing}
-use Rattle.spec_laws.specs.NormalFormLaws.{case}
 use Rattle.spec.specs.Join.{Joins}
 
 module _ (c : List ℕ) where
@@ -30,9 +30,11 @@ module _ (c : List ℕ) where
 
   passes-undone : (b : ℕ) → passes (commands c) b ≡ true → passes (commands c) (undone b) ≡ true
   unfolding passes undone
-  passes-undone b e = case (passes-cases (commands c) b e)
-      (λ z. rw (eqb-true b 0 z) (passes-low (commands c) 0 (omega arith)))
-      (λ k. command-passes (commands c) (undone b) (isCommand-undone (commands c) b ∙ k))
+  passes-undone b e = go (passes-cases (commands c) b e)
+    where
+      go : (eqb b 0 ≡ true) ⊎ (isCommand (commands c) b ≡ true) → passes (commands c) (undone b) ≡ true
+      go (inl z) = rw (eqb-true b 0 z) (passes-low (commands c) 0 (omega arith))
+      go (inr k) = command-passes (commands c) (undone b) (isCommand-undone (commands c) b ∙ k)
 
   undone-passing : (u v : List ℕ) → Passing (commands c) u → Passing (commands c) v
       → Passing (commands c) (undoOf u ++ v)

@@ -25,10 +25,6 @@ use Rattle.spec_laws.specs.StepLaws.{equal-exact, equal-words, equal-rig
 use Rattle.spec.specs.Order.{Earlier}
 use Rattle.spec_laws.specs.OrderLaws.{smaller-earlier}
 
-pub case : {A B C : Type 0} → A ⊎ B → (A → C) → (B → C) → C
-case (inl a) f g = f a
-case (inr b) f g = g b
-
 -- a plan with no filler is its own word
 letters-full : (v : List ℕ) → length (letters v) ≡ length v → letters v ≡ v
 unfolding letters filter
@@ -82,10 +78,12 @@ module _ (c : List ℕ) where
   unfolding normalForm
   normal-first x v m e l =
       let k : letters x ≡ x = letters-full x (omega (arith, least, letters-length x)) in
-      let d : (letters x ≡ normalForm c v) ⊎ Smaller (alphabet c) (normalForm c v) (letters x) =
-      nf-first (alphabet c) (letters x) (letters v) (equal-words c e) (ap length k ∙ l) in
-      case d (λ p. inl (sym k ∙ p))
-      (λ s. inr (smaller-earlier c (commands c) m (normal-passing v (equal-right c e)) (rw k at s)))
+      go k (nf-first (alphabet c) (letters x) (letters v) (equal-words c e) (ap length k ∙ l))
     where
       least : length (normalForm c v) ≤ length (letters x)
       least = nf-least (alphabet c) (letters x) (letters v) (equal-words c e)
+
+      go : letters x ≡ x → (letters x ≡ normalForm c v) ⊎ Smaller (alphabet c) (normalForm c v) (letters x)
+          → (x ≡ normalForm c v) ⊎ Earlier (normalForm c v) x
+      go k (inl p) = inl (sym k ∙ p)
+      go k (inr s) = inr (smaller-earlier c (commands c) m (normal-passing v (equal-right c e)) (rw k at s))

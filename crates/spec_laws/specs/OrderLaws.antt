@@ -26,8 +26,8 @@ passes-byte n b m e = go (passes-cases n b e)
     go (inl z) = let k = eqb-true b 0 z in omega arith
     go (inr k) = from (said n b k)
 
-side : (b : ℕ) → b < 256 → b / 128 ≤ 1
-side b h = omega arith
+half-le : (b : ℕ) → b < 256 → b / 128 ≤ 1
+half-le b h = omega arith
 
 rank-less : (j k s t : ℕ) → s ≤ 1 → j < k → 2 * j + s < 2 * k + t
 rank-less j k s t h l = omega arith
@@ -35,5 +35,5 @@ rank-less j k s t h l = omega arith
 pub smaller-earlier : (c : List ℕ) (n : ℕ) {v w : List ℕ} → n ≤ 127 → Passing n v
     → Smaller (alphabet c) v w → Earlier v w
 smaller-earlier c n m h (Normal.at {a = a} {b = b} l) =
-    at (rank-less (commandOf a) (commandOf b) (a / 128) (b / 128) (side a (passes-byte n a m (h .0))) l)
+    at (rank-less (commandOf a) (commandOf b) (a / 128) (b / 128) (half-le a (passes-byte n a m (h .0))) l)
 smaller-earlier c n m h (Normal.on e) = on (smaller-earlier c n m (h .1) e)

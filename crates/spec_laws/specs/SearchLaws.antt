@@ -25,8 +25,8 @@ module _ (p : ℕ → Bool) where
   pub search-start : (n s : ℕ) → Searching n s s
   search-start n s = record { low = omega arith; high = omega arith; rest = ap (λ k. firstOf p k s) (omega arith) }
 
-  left : {n s i : ℕ} → Searching n s i → i < s + n → s + n - i ≡ suc (s + n - (i + 1))
-  left g h = omega arith
+  left-suc : {n s i : ℕ} → Searching n s i → i < s + n → s + n - i ≡ suc (s + n - (i + 1))
+  left-suc g h = omega arith
 
   pub search-again : {n s i : ℕ} → Searching n s i → i < s + n → p i ≡ false → Searching n s (i + 1)
   unfolding firstOf
@@ -34,12 +34,12 @@ module _ (p : ℕ → Bool) where
       record {
         low = omega (arith, g .low);
         high = omega arith;
-        rest = g .rest ∙ ap (λ k. firstOf p k i) (left g h) ∙ rw (f, add-one);
+        rest = g .rest ∙ ap (λ k. firstOf p k i) (left-suc g h) ∙ rw (f, add-one);
       }
 
   pub search-hit : {n s i : ℕ} → Searching n s i → i < s + n → p i ≡ true → firstOf p n s ≡ some i
   unfolding firstOf
-  search-hit {n} {s} {i} g h t = g .rest ∙ ap (λ k. firstOf p k i) (left g h) ∙ rw t
+  search-hit {n} {s} {i} g h t = g .rest ∙ ap (λ k. firstOf p k i) (left-suc g h) ∙ rw t
 
   pub search-end : {n s i : ℕ} → Searching n s i → s + n ≤ i → firstOf p n s ≡ none
   unfolding firstOf
@@ -47,16 +47,16 @@ module _ (p : ℕ → Bool) where
       let e : s + n - i ≡ 0 = omega arith in
       g .rest ∙ ap (λ k. firstOf p k i) e
 
-  miss : (b : Bool) (i : ℕ) {o : Option ℕ} → found-step b i o ≡ none → (b ≡ false) × (o ≡ none)
-  miss true i e = absurd (none-not e)
-  miss false i e = (refl, e)
+  found-step-none : (b : Bool) (i : ℕ) {o : Option ℕ} → found-step b i o ≡ none → (b ≡ false) × (o ≡ none)
+  found-step-none true i e = absurd (none-not e)
+  found-step-none false i e = (refl, e)
 
   -- a search that finds nothing has seen every number fail
   pub search-none : (n s : ℕ) → firstOf p n s ≡ none → (i : ℕ) → s ≤ i → i < s + n → p i ≡ false
   unfolding firstOf
   search-none zero s e i l h = absurd (omega arith)
   search-none (suc n) s e i l h =
-      let m = miss (p s) s e in
+      let m = found-step-none (p s) s e in
       go (ℕ-discrete i s) (m .0) (λ q. search-none n (suc s) (m .1) i q (omega arith))
     where
       go : Dec (i ≡ s) → p s ≡ false → (s < i → p i ≡ false) → p i ≡ false

@@ -72,10 +72,10 @@ module _ (Γ : Alphabet) where
           met f (late s k o e) = n c f (over k)
 
   -- and then u is empty, since the result can be cycled to x, u, u undone
-  stuck : (u x y : Word Γ) → Reduced Γ u → Round Γ x → Round Γ y → conj Γ u x ≈ y
+  conj-stuck : (u x y : Word Γ) → Reduced Γ u → Round Γ x → Round Γ y → conj Γ u x ≈ y
       → ((c : Letter) → First Γ c u → ¬ Moves c x) → length u ≤ 0
   unfolding conj
-  stuck u x y p q r e n =
+  conj-stuck u x y p q r e n =
       let z = undo Γ u [] in
       let k : Reduced Γ (z ++ (x ++ u)) = conj-reduced u x p (round-reduced Γ x q) n in
       let d : (z ++ (x ++ u)) ≈ y = then (≈-of-≡ Γ (sym (undo-onto inv u (x ++ u)))) e in
@@ -149,19 +149,19 @@ module _ (Γ : Alphabet) where
         let s : length v ≤ n = omega (arith, pick-length Γ o) in
         way-≈ Γ d (way-move v q (then (≈-conj-by Γ (back d) x) e) (k .2)
         (λ z l f. way-reduced n v z y s (reduced-pick Γ o p .1) l r f))
-    | no m ↦ way-nil u x y (stuck u x y p q r e (λ c f i. m (c, f, i))) q r e
+    | no m ↦ way-nil u x y (conj-stuck u x y p q r e (λ c f i. m (c, f, i))) q r e
   ]
 
   -- what conjugates a cyclically reduced word to another commutes with it, then runs along forward cyclings
-  pub way : (u x y : Word Γ) → Round Γ x → Round Γ y → conj Γ u x ≈ y → Way Γ x u y
-  way u x y q r e =
+  pub conj-way : (u x y : Word Γ) → Round Γ x → Round Γ y → conj Γ u x ≈ y → Way Γ x u y
+  conj-way u x y q r e =
       let v = reduce Γ u in
       let d : u ≈ v = back (reduce-≈ Γ u) in
       let f : conj Γ v x ≈ y = then (≈-conj-by Γ (back d) x) e in
       way-≈ Γ d (way-reduced (length v) v x y (omega arith) (reduce-reduced Γ u) q r f)
 
-  pub conjugate : (u x y : Word Γ) → Round Γ x → Round Γ y → conj Γ u x ≈ y → Turns Γ x y
-  conjugate u x y q r e = way-turns Γ (way u x y q r e)
+  pub conj-turns : (u x y : Word Γ) → Round Γ x → Round Γ y → conj Γ u x ≈ y → Turns Γ x y
+  conj-turns u x y q r e = way-turns Γ (conj-way u x y q r e)
 
   -- cyclings are conjugations
   pub turns-conj : {x y : Word Γ} → Turns Γ x y → (u : Word Γ) × (conj Γ u x ≈ y)
@@ -182,7 +182,7 @@ module _ (Γ : Alphabet) where
       let f : conj Γ (g ++ (u ++ h)) (core Γ v) ≈ core Γ w =
       then (≈-of-≡ Γ (conj-append Γ g (u ++ h) (core Γ v) ∙ conj-append Γ u h (conj Γ g (core Γ v))))
       (then (≈-conj Γ h d) (core-conj Γ w)) in
-      conjugate (g ++ (u ++ h)) (core Γ v) (core Γ w) (core-round Γ v) (core-round Γ w) f
+      conj-turns (g ++ (u ++ h)) (core Γ v) (core Γ w) (core-round Γ v) (core-round Γ w) f
 
   -- and a word that conjugates the cores gives one that conjugates the words
   pub cores-conjugate : (t v w : Word Γ) → conj Γ t (core Γ v) ≈ core Γ w

@@ -15,7 +15,7 @@ use Rattle.theory_words.specs.Group as Group
 use Rattle.theory_words.specs.Group.{Reduced, undo, conj, then, back}
 use Rattle.theory_words.specs.Reduce.{reduce}
 use Rattle.theory_words.specs.TraceLaws.{~-refl, ~-sym, ~-length, ~-after, pick-front, pick-along, pick-length}
-use Rattle.theory_words.specs.TraceLaws.{pick-nil, pick-unique, diamond, dep-sym}
+use Rattle.theory_words.specs.TraceLaws.{pick-nil, pick-unique, pick-diamond, dep-sym}
 use Rattle.theory_words.specs.GroupLaws.{~→≈, ≈-of-≡, ≈-after, ≈-before, dep-inv-right, undo-onto}
 use Rattle.theory_words.specs.GroupLaws.{pick-undo, first-undo, conj-of, undo-left}
 use Rattle.theory_words.specs.ReduceLaws.{Sees, seen, unseen, sees, reduce-~, reduce-≈, reduce-reduced}
@@ -52,7 +52,7 @@ module _ (Γ : Alphabet) where
   pub peels-diamond : {c d : Letter} {x s t : Word Γ} → ¬ (c ≡ d) → Peels c x s → Peels d x t
       → (dep Γ c d ≡ false) × ((q : Word Γ) × Peels d s q × Peels c t q)
   peels-diamond {c} {d} {x} {s} {t} n (off p e) (off p′ e′) =
-      let (i, (y, o, o′)) = diamond Γ n p p′ in
+      let (i, (y, o, o′)) = pick-diamond Γ n p p′ in
       let (u, l, f) = pick-before Γ s (dep-inv-right Γ d c ∙ dep-sym Γ {a = c} {b = d} i) e o in
       let (u′, l′, f′) = pick-before Γ t (dep-inv-right Γ c d ∙ i) e′ o′ in
       let (q, a, b) = last-diamond Γ u u′ (λ j. n (inv-cancel Γ j)) (next (~-sym Γ f) f′) in

@@ -37,10 +37,10 @@ use Rattle.theory_conjugacy.specs.LeadInLaws.{apical-part, settling-lead
 use Rattle.theory_conjugacy.specs.JoinLaws.{part-second, apical-second, parts-lead-conj, parts-lead-length}
 
 -- the letters of a lead-in, counted
-pub bound : (n a b l s t u : ℕ) → (n ≡ 0 → s + t ≡ 0) → 2 * a + l ≤ s → 2 * b + l ≤ t → u + l ≤ (2 * n) * l
+pub lead-in-bound : (n a b l s t u : ℕ) → (n ≡ 0 → s + t ≡ 0) → 2 * a + l ≤ s → 2 * b + l ≤ t → u + l ≤ (2 * n) * l
     → a + (u + b) ≤ n * (s + t)
-bound zero a b l s t u z i j k = let e = z refl in omega arith
-bound (suc n) a b l s t u z i j k =
+lead-in-bound zero a b l s t u z i j k = let e = z refl in omega arith
+lead-in-bound (suc n) a b l s t u z i j k =
     let c = 2 * a + 2 * b in
     let d : suc n * (c + (l + l)) ≤ suc n * (s + t) = mul-le-mul-left (suc n) (omega arith) in
     let e : 1 * c ≤ suc n * c = mul-le-mul-right c (omega arith) in
@@ -149,7 +149,7 @@ module _ (Γ : Alphabet) where
       let c : length u + length x ≤ (2 * n) * length x =
       subst (λ l. length u + l ≤ (2 * n) * l) (sym (~-length Γ (apexes-~ Γ x))) b in
       let z : length x ≡ length y = turns-length Γ (conjugate-cores Γ (lead-in Γ v w) v w (lead-in-conj v w t)) in
-      let f = bound n (length (lead Γ v)) (length (lead Γ w)) (length x) (length v) (length w) (length u)
+      let f = lead-in-bound n (length (lead Γ v)) (length (lead Γ w)) (length x) (length v) (length w) (length u)
       (λ d. omega (arith, none-occur n v h d, none-occur n w k d))
       (omega (arith, core-length Γ v, reduce-length Γ v)) (omega (arith, core-length Γ w, reduce-length Γ w)) c in
       omega (arith, f, length-append (lead Γ v) (u ++ g), length-append u g, undo-length inv (lead Γ w) [])

@@ -94,11 +94,11 @@ module _ (Γ : Alphabet) where
   cut-map g (i, j, m, n, p, q, c, s, t) = (i, j, m, n, ap g p, ap g q, c, s, t)
 
   -- across a conflicting pair whose labels become one
-  bridge : {ks : List ℕ} {lab : ℕ → ℕ} → Labelled ks lab → (f : ℕ → Bool) (g : ℕ → ℕ) (i j p q : ℕ)
+  cut-bridge : {ks : List ℕ} {lab : ℕ → ℕ} → Labelled ks lab → (f : ℕ → Bool) (g : ℕ → ℕ) (i j p q : ℕ)
       → i ∈ ks → j ∈ ks → p ∈ ks → q ∈ ks → conf i j ≡ true → g (lab i) ≡ g (lab j)
       → lab p ≡ lab i → lab q ≡ lab j
       → f p ≡ true → f q ≡ false → Cut ks (λ k. g (lab k)) f (g (lab p))
-  bridge {ks} {lab} h f g i j p q mi mj mp mq c e ep eq s t = go (f i) refl (f j) refl
+  cut-bridge {ks} {lab} h f g i j p q mi mj mp mq c e ep eq s t = go (f i) refl (f j) refl
     where
       go : (x : Bool) → f i ≡ x → (y : Bool) → f j ≡ y → Cut ks (λ k. g (lab k)) f (g (lab p))
       go false x y z = cut-map g (h .whole f p i mp mi ep s x)
@@ -127,8 +127,8 @@ module _ (Γ : Alphabet) where
       met : (f : ℕ → Bool) (p q : ℕ) → p ∈ ks → q ∈ ks → f p ≡ true → f q ≡ false
           → Met (lab i) (lab j) (lab p) (lab q) → Cut ks (λ k. g (lab k)) f (g (lab p))
       met f p q mp mq s t (alike e) = cut-map g (h .whole f p q mp mq e s t)
-      met f p q mp mq s t (straight e d) = bridge h f g i j p q mi mj mp mq c one e d s t
-      met f p q mp mq s t (across e d) = bridge h f g j i p q mj mi mp mq (conf-sym j i ∙ c) (sym one) e d s t
+      met f p q mp mq s t (straight e d) = cut-bridge h f g i j p q mi mj mp mq c one e d s t
+      met f p q mp mq s t (across e d) = cut-bridge h f g j i p q mj mi mp mq (conf-sym j i ∙ c) (sym one) e d s t
 
       fixed : (k : ℕ) → k ∈ ks → lab (g (lab k)) ≡ g (lab k)
       fixed k m = relabels-old (λ l. lab l ≡ l) (h .own i mi) (h .own j mj) (h .own k m) (r (lab k))
@@ -164,9 +164,9 @@ module _ (Γ : Alphabet) where
     large = λ k m. omega arith;
   }
 
-  pub labelled : (ks : List ℕ) → Labelled ks (labels Γ ks)
+  pub labels-labelled : (ks : List ℕ) → Labelled ks (labels Γ ks)
   unfolding labels
-  labelled ks = all-labelled ks ks (λ k m. m) (λ k m. m) (start-labelled ks)
+  labels-labelled ks = all-labelled ks ks (λ k m. m) (λ k m. m) (start-labelled ks)
 
   -- merging keeps equal labels equal
   merge-kept : (lab : ℕ → ℕ) (p q i j : ℕ) → lab p ≡ lab q → merge Γ i j lab p ≡ merge Γ i j lab q

@@ -26,7 +26,7 @@ use Rattle.theory_conjugacy.specs.RingLaws.{Leads, rest, step, Under, ri
 use Rattle.theory_conjugacy.specs.AscendingLaws.{_∈_}
 use Rattle.theory_conjugacy.specs.CommandLaws.{Occurs, occurs-all, occurs-length}
 use Rattle.theory_conjugacy.specs.PartLaws.{Connected, part-connected, part-largest, apex-occurs}
-use Rattle.theory_conjugacy.specs.RoundLaws.{rounded, rounded-length}
+use Rattle.theory_conjugacy.specs.RoundLaws.{connected-rounded, rounded-length}
 use Rattle.theory_conjugacy.specs.Decision.{found?, settled-ring, rotated?}
 use Rattle.theory_conjugacy.specs.LeadIn.{place, settling, part-lead}
 
@@ -71,7 +71,7 @@ module _ (Γ : Alphabet) where
   pub settling-leads : {m : ℕ} {p : Word Γ} → Apical m p → Leads Γ m p (settling Γ m p) (settled-ring Γ m p)
   unfolding settling settled-ring
   settling-leads {m} {p} a =
-      let (n, g, r, o, h) = rounded Γ m p (a .whole) (a .apex) in
+      let (n, g, r, o, h) = connected-rounded Γ m p (a .whole) (a .apex) in
       ring-of Γ m o (apical-under a) (length (commands Γ p)) (omega arith)
 
   -- with no more than n + 1 commands
@@ -79,7 +79,7 @@ module _ (Γ : Alphabet) where
       → length (settling Γ m p) + n ≤ n * length p
   unfolding settling
   settling-length {m} {p} a n h =
-      let (j, g, r, o, k) = rounded Γ m p (a .whole) (a .apex) in
+      let (j, g, r, o, k) = connected-rounded Γ m p (a .whole) (a .apex) in
       let (e, f) = rounded-settled Γ m o (length (commands Γ p)) (omega arith) in
       let i = more-rounds (length p) j n (length g) (omega arith) (occurs-length Γ (a .apex))
       (rounded-length Γ m (a .apex) o) in
@@ -90,7 +90,7 @@ module _ (Γ : Alphabet) where
       → (ring Γ m n p ≡ settled-ring Γ m p) × (cycled Γ m n p ≡ settling Γ m p)
   unfolding ring settled-ring settling
   settling-enough {m} {p} a n h =
-      let (j, g, r, o, k) = rounded Γ m p (a .whole) (a .apex) in
+      let (j, g, r, o, k) = connected-rounded Γ m p (a .whole) (a .apex) in
       let (e, f) = rounded-settled Γ m o n (omega arith) in
       let (e′, f′) = rounded-settled Γ m o (length (commands Γ p)) (omega arith) in
       let d : settled Γ m n p ≡ settled Γ m (length (commands Γ p)) p = e ∙ sym e′ in

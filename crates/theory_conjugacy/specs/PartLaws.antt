@@ -21,7 +21,7 @@ use Rattle.theory_conjugacy.specs.Part.{commands, labels, label, apexes,
 use Rattle.theory_conjugacy.specs.AscendingLaws.{_∈_, Ascending, filter-ascending}
 use Rattle.theory_conjugacy.specs.CommandLaws.{Occurs, now, later, occurs-in, in-occurs, commands-ascending}
 use Rattle.theory_conjugacy.specs.CommandLaws.{apart-occurs, occurs-filter, filter-occurs, commands-bounded}
-use Rattle.theory_conjugacy.specs.LabelLaws.{labelled, labels-one}
+use Rattle.theory_conjugacy.specs.LabelLaws.{labels-labelled, labels-one}
 
 -- no number stands twice
 abbrev pub Once : List ℕ → Type 0
@@ -161,7 +161,8 @@ module _ (Γ : Alphabet) where
   part-connected m w f i j o p s t =
       let (oi, ei) = part-occurs m w o in
       let (oj, ej) = part-occurs m w p in
-      let (k, l, mk, ml, ek, el, c, x, y) = labelled Γ (commands Γ w) .whole f i j (occurs-in Γ oi) (occurs-in Γ oj)
+      let (k, l, mk, ml, ek, el, c, x, y) =
+      labels-labelled Γ (commands Γ w) .whole f i j (occurs-in Γ oi) (occurs-in Γ oj)
       (ei ∙ sym ej) s t in
       (k, l, occurs-part (in-occurs Γ w mk) (ek ∙ ei), occurs-part (in-occurs Γ w ml) (el ∙ ei), c, x, y)
 
@@ -178,7 +179,7 @@ module _ (Γ : Alphabet) where
   unfolding label
   part-largest m {k} w o =
       let (p, e) = part-occurs m w o in
-      let h : k ≤ label Γ w k = labelled Γ (commands Γ w) .large k (occurs-in Γ p) in
+      let h : k ≤ label Γ w k = labels-labelled Γ (commands Γ w) .large k (occurs-in Γ p) in
       subst (λ l. k ≤ l) e h
 
   pub apex-occurs : {m : ℕ} (w : Word Γ) → m ∈ apexes Γ w → Occurs Γ m (part Γ m w)
@@ -190,7 +191,7 @@ module _ (Γ : Alphabet) where
   pub label-apex : {k : ℕ} {w : Word Γ} → Occurs Γ k w → label Γ w k ∈ apexes Γ w
   unfolding apexes label
   label-apex {k} {w} o =
-      let h = labelled Γ (commands Γ w) in
+      let h = labels-labelled Γ (commands Γ w) in
       mem-filter (λ k. eqb (label Γ w k) k) (commands Γ w) (h .inside k (occurs-in Γ o))
       (eq-eqb (label Γ w (label Γ w k)) (label Γ w k) (h .own k (occurs-in Γ o)))
 

@@ -14,7 +14,7 @@ use Rattle.theory_words.specs.All.{All, all-append, all-left, all-right, all-al
 use Rattle.theory_words.specs.Trace as Trace
 use Rattle.theory_words.specs.Trace.{Pick, here, done, cons, swap, next}
 use Rattle.theory_words.specs.TraceLaws.{dep-sym, ~-refl, ~-sym, ~-before, ~-after, first-eq}
-use Rattle.theory_words.specs.TraceLaws.{pick-along, pick-front, pick-same, pick-after, diamond}
+use Rattle.theory_words.specs.TraceLaws.{pick-along, pick-front, pick-same, pick-after, pick-diamond}
 use Rattle.theory_words.specs.Group as Group
 use Rattle.theory_words.specs.Group.{undo, conj, then, back}
 use Rattle.theory_words.specs.GroupLaws.{~→≈, ≈-of-≡, ≈-conj, conj-nil, conj-append, conj-undo}
@@ -87,7 +87,7 @@ module _ (Γ : Alphabet) (m : ℕ) where
           let f : y ≡ z = pick-same Γ e p q in
           (g, rw (e, f) l, ~-of-≡ Γ (ap (λ (c : Letter). c ∷ g) (sym e)))
       go (no e) ih =
-          let (d, (s, i, j)) = diamond Γ e p q in
+          let (d, (s, i, j)) = pick-diamond Γ e p q in
           let (h, l′, f) = ih (s ++ b ∷ []) (pick-after Γ j (b ∷ [])) in
           (b ∷ h, step-past d k i l′, next (cons f) (swap (dep-sym Γ {a = a} {b = b} d)))
 
@@ -190,7 +190,7 @@ module _ (Γ : Alphabet) (m : ℕ) where
       → (h : Word Γ) × (t : Word Γ) × Leads (y ++ a ∷ []) h t × Rotated Γ r t
   leads-turn {a} {y = y} (step {a = b} {z = z} n q l) k p =
       let e : ¬ (a ≡ b) = λ f. n (ap cmd (sym f) ∙ k) in
-      let (d, (s, i, j)) = diamond Γ e p q in
+      let (d, (s, i, j)) = pick-diamond Γ e p q in
       let (h, t, l′, f) = leads-turn l k (pick-after Γ j (b ∷ [])) in
       (b ∷ h, t, step-past d n i l′, f)
   leads-turn {a} {x} {y} {r = r} (rest h f o u) k p =

@@ -104,9 +104,9 @@ module _ (Γ : Alphabet) (m : ℕ) where
       go (inr u) = u
 
   -- the next round has fewer commands in its first half
-  pub fewer : {w p q x y : Word Γ} → Connected Γ w → Occurs Γ m w → Split Γ m [] w p q → Split Γ m [] (q ++ p) x y
+  pub split-fewer : {w p q x y : Word Γ} → Connected Γ w → Occurs Γ m w → Split Γ m [] w p q → Split Γ m [] (q ++ p) x y
       → {i : ℕ} → Occurs Γ i p → length (commands Γ x) < length (commands Γ p)
-  fewer {w} {p} {q} {x} {y} h a s t {i} o =
+  split-fewer {w} {p} {q} {x} {y} h a s t {i} o =
       let (k, l, ok, ol, c) = connected-cut Γ w p q h (split-~ Γ m s) i m o (apex-behind s a) (split-apex s) in
       let (f, g) = split-behind q (split-upper Γ m s) t in
       covers-shorter Γ x p f k ok (λ u. true≢false (sym c ∙ g k l u ol))
@@ -127,7 +127,7 @@ module _ (Γ : Alphabet) (m : ℕ) where
   rounded-few h a (quiet t) = omega arith
   rounded-few h a (round {n = n} {b = b} {p = p} {q = q} t o) =
       let i = rounded-few (connected-round t h) (covers-round t .0 m a) o in
-      let f = fewer h a t (split-splits Γ m [] (q ++ b ∷ p)) (now refl) in
+      let f = split-fewer h a t (split-splits Γ m [] (q ++ b ∷ p)) (now refl) in
       let l : suc n ≤ length (commands Γ (b ∷ p)) = omega arith in
       rw (split-unique Γ m t .0) l
 
@@ -147,18 +147,19 @@ module _ (Γ : Alphabet) (m : ℕ) where
   ends-step {w} [] q s f = (zero, [], w, quiet s)
   ends-step (b ∷ p) q s f = let (n, g, r, o) = f (cmd b) (now refl) in (suc n, b ∷ p ++ g, r, round s o)
 
-  ends : (k : ℕ) (w : Word Γ) → Connected Γ w → Occurs Γ m w → length (commands Γ (split Γ m [] w .0)) ≤ k → Ends w
-  ends zero w h a f = let (p, q) = split Γ m [] w in ends-step p q (split-splits Γ m [] w)
+  connected-ends : (k : ℕ) (w : Word Γ) → Connected Γ w → Occurs Γ m w
+      → length (commands Γ (split Γ m [] w .0)) ≤ k → Ends w
+  connected-ends zero w h a f = let (p, q) = split Γ m [] w in ends-step p q (split-splits Γ m [] w)
       (λ i o. absurd (omega (arith, covers-shorter Γ [] p (λ k u. absurd (occurs-nil Γ u)) i o (occurs-nil Γ))))
-  ends (suc k) w h a f = let (p, q) = split Γ m [] w in let s = split-splits Γ m [] w in ends-step p q s
-      (λ i o. ends k (q ++ p) (connected-round s h) (covers-round s .0 m a)
-      (omega (arith, fewer h a s (split-splits Γ m [] (q ++ p)) o)))
+  connected-ends (suc k) w h a f = let (p, q) = split Γ m [] w in let s = split-splits Γ m [] w in ends-step p q s
+      (λ i o. connected-ends k (q ++ p) (connected-round s h) (covers-round s .0 m a)
+      (omega (arith, split-fewer h a s (split-splits Γ m [] (q ++ p)) o)))
 
   -- and it is settled
-  pub rounded : (w : Word Γ) → Connected Γ w → Occurs Γ m w
+  pub connected-rounded : (w : Word Γ) → Connected Γ w → Occurs Γ m w
       → (n : ℕ) × (g : Word Γ) × (r : Word Γ) × Rounded Γ m n w g r × (n < length (commands Γ w))
-  rounded w h a =
-      let (n, g, r, o) = ends (length (commands Γ w)) w h a
+  connected-rounded w h a =
+      let (n, g, r, o) = connected-ends (length (commands Γ w)) w h a
       (omega (arith, first-fewer a (split-splits Γ m [] w))) in
       (n, g, r, o, rounded-bound h a o)
 
@@ -170,7 +171,7 @@ module _ (Γ : Alphabet) (m : ℕ) where
   pub settled-quiet : (w : Word Γ) → Connected Γ w → Occurs Γ m w → (k : ℕ) → length (commands Γ w) ≤ suc k
       → split Γ m [] (settled Γ m k w) .0 ≡ []
   settled-quiet w h a k l =
-      let (n, g, r, o, f) = rounded w h a in
+      let (n, g, r, o, f) = connected-rounded w h a in
       rw (rounded-settled Γ m o k (omega arith) .0) (rounded-quiet o)
 
   -- so a part is settled after as many rounds as it has commands

@@ -16,7 +16,7 @@ use Rattle.theory_words.specs.Group.{Reduced, undo, empty, keep, trade, 
 use Rattle.theory_words.specs.Reduce.{without, without-step, act, act-step, reduce}
 use Rattle.theory_words.specs.TraceLaws.{dep-sym, dep-not, ~-refl, ~-sym, ~-length, ~-before, ~-after}
 use Rattle.theory_words.specs.TraceLaws.{pick-front, pick-along, pick-unique, pick-length, first-along}
-use Rattle.theory_words.specs.TraceLaws.{not-first-nil, not-first-cons, diamond}
+use Rattle.theory_words.specs.TraceLaws.{not-first-nil, not-first-cons, pick-diamond}
 use Rattle.theory_words.specs.TraceLaws.{Splits, early, late, pick-after, pick-past, pick-split}
 use Rattle.theory_words.specs.GroupLaws.{dep-inv, dep-inv-right, ≈-refl, ≈-of-≡, ~→≈, drop-back, ≈-reverse}
 use Rattle.theory_words.specs.GroupLaws.{undo-onto, undo-twice, undo-length, ≈-undo, apart-undo, pick-undo}
@@ -108,7 +108,7 @@ module _ (Γ : Alphabet) where
       → (s : Word Γ) × (t : Word Γ) × Act a u s × Act b v t × (s ~ t)
   act-both {a} {b} d (cut p) (cut q) =
       let k = dep-inv Γ b (inv a) ∙ dep-inv-right Γ b a ∙ dep-sym Γ {a = a} {b = b} d in
-      let (l, (s, m, o)) = diamond Γ (dep-not Γ k) p q in
+      let (l, (s, m, o)) = pick-diamond Γ (dep-not Γ k) p q in
       (s, s, cut m, cut o, ~-refl Γ s)
   act-both {a} {u = u} d (cut p) (put n) = let (m, o) = act-past d p n in (a ∷ u, a ∷ u, m, o, ~-refl Γ _)
   act-both {a} {b} {v = v} d (put n) (cut p) =

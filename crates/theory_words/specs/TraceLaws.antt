@@ -126,13 +126,13 @@ module _ (Γ : Alphabet) where
   first-along e (r, p) = let (s, q, f) = pick-along e p in (s, q)
 
   -- two letters that can come first are independent, and either can follow the other
-  pub diamond : {c d : Letter} {w u v : Word Γ} → ¬ (c ≡ d) → Pick Γ c w u → Pick Γ d w v
+  pub pick-diamond : {c d : Letter} {w u v : Word Γ} → ¬ (c ≡ d) → Pick Γ c w u → Pick Γ d w v
       → (dep Γ c d ≡ false) × ((s : Word Γ) × Pick Γ d u s × Pick Γ c v s)
-  diamond n here here = absurd (n refl)
-  diamond {c} {d} n here (there {r = r} k q) = (dep-sym {a = d} {b = c} k, (r, q, here))
-  diamond n (there {r = r} k p) here = (k, (r, here, p))
-  diamond n (there {b = b} k p) (there l q) =
-      let (f, (s, o, m)) = diamond n p q in
+  pick-diamond n here here = absurd (n refl)
+  pick-diamond {c} {d} n here (there {r = r} k q) = (dep-sym {a = d} {b = c} k, (r, q, here))
+  pick-diamond n (there {r = r} k p) here = (k, (r, here, p))
+  pick-diamond n (there {b = b} k p) (there l q) =
+      let (f, (s, o, m)) = pick-diamond n p q in
       (f, (b ∷ s, there l o, there k m))
 
   -- two letters of one command that can come first are equal
@@ -141,7 +141,7 @@ module _ (Γ : Alphabet) where
     where
       go : Dec (c ≡ d) → c ≡ d
       go (yes k) = k
-      go (no n) = absurd (true≢false (sym (dep-cmd {c = c} {d = d} e) ∙ diamond n p q .0))
+      go (no n) = absurd (true≢false (sym (dep-cmd {c = c} {d = d} e) ∙ pick-diamond n p q .0))
 
   -- c is independent of every letter of w
   abbrev pub Apart : Letter → Word Γ → Type 0
