@@ -1,4 +1,5 @@
--- The starred cases hold: the definitions of the calls compute each row of the table.
+-- For the reader, and cited by no other file: the starred cases hold, the definitions of the calls compute each row of
+-- the table.
 use mathlib.Core.Path.{refl}
 use native.Mathlib.Decide.{ℕ-discrete}
 use Rattle.spec.specs.Table.{firstOf}

@@ -1,4 +1,4 @@
--- Conflicts are reflexive and symmetric and are what document 01 says, for all catalogues together.
+-- For the reader, and cited by no other file: conflicts are what document 01 says, for all catalogues together.
 use Prim.Native.Nat.{ℕ}
 use mathlib.Core.Path.{_≡_, refl, sym, _∙_, ap₂}
 use mathlib.Core.Bool.{Bool, true, false, _||_, true≢false}

@@ -6,7 +6,7 @@ use lib.ListN.{length, length-append}
 use native.Mathlib.Omega.{arith}
 use Rattle.theory_words.specs.Alphabet.{Alphabet, Word}
 use Rattle.theory_words.specs.Trace as Trace
-use Rattle.theory_words.specs.Trace.{Pick, here, First}
+use Rattle.theory_words.specs.Trace.{Pick, First}
 use Rattle.theory_words.specs.Group as Group
 use Rattle.theory_words.specs.Group.{Reduced, undo, conj, keep, drop, then, back}
 use Rattle.theory_words.specs.Reduce.{reduce}
@@ -18,7 +18,7 @@ use Rattle.theory_words.specs.GroupLaws.{conj-nil, conj-append, conj-undo, conj
 use Rattle.theory_words.specs.ReduceLaws.{first?, reduce-≈, reduce-reduced, reduced-~, reduced-least, reduced-undo}
 use Rattle.theory_words.specs.ReduceLaws.{reduced-append, reduced-pick}
 use Rattle.theory_conjugacy.specs.WordLaws.{apart?, first-search}
-use Rattle.theory_conjugacy.specs.Turn.{Turns, same, turn, also, Round}
+use Rattle.theory_conjugacy.specs.Turn.{Turns, same, also, Round}
 use Rattle.theory_conjugacy.specs.TurnLaws.{turns-rotate, turns-pick, round-turns, round-reduced}
 use Rattle.theory_conjugacy.specs.Core.{lead, core}
 use Rattle.theory_conjugacy.specs.CoreLaws.{core-round, core-conj}
@@ -162,15 +162,6 @@ module _ (Γ : Alphabet) where
 
   pub conj-turns : (u x y : Word Γ) → Round Γ x → Round Γ y → conj Γ u x ≈ y → Turns Γ x y
   conj-turns u x y q r e = way-turns Γ (conj-way u x y q r e)
-
-  -- cyclings are conjugations
-  pub turns-conj : {x y : Word Γ} → Turns Γ x y → (u : Word Γ) × (conj Γ u x ≈ y)
-  turns-conj {x} (same e) = ([], then (≈-of-≡ Γ (conj-nil Γ x)) (~→≈ Γ e))
-  turns-conj (turn {a = a} {z = z}) = (a ∷ [], conj-pick Γ here)
-  turns-conj {x} (also s t) =
-      let (u, d) = turns-conj s in
-      let (v, e) = turns-conj t in
-      (u ++ v, then (≈-of-≡ Γ (conj-append Γ u v x)) (then (≈-conj Γ v d) e))
 
   -- words are conjugate exactly if cyclings lead from the one's core to the other's
   pub conjugate-cores : (u v w : Word Γ) → conj Γ u v ≈ w → Turns Γ (core Γ v) (core Γ w)

@@ -1,11 +1,12 @@
 -- The decision is exact: `joined?` answers true exactly where some word conjugates the first word to the second, and
--- then `lead-in` is such a word, of at most N times the letters of both where the commands are 1 to N.
+-- then `lead-in` is such a word, of at most N times the letters of both where the commands are 1 to N. The first and the
+-- last of these, joined-exact and lead-in-length, stand for the reader.
 use Prim.Native.Nat.{ℕ, zero, suc, _+_, _*_, _≤_}
 use native.Mathlib.Nat.{mul-add, add-mul, mul-le-mul-left, mul-le-mul-right}
 use native.Mathlib.Omega.{arith}
 use mathlib.Core.Path.{_≡_, refl, sym, _∙_, ap, subst}
 use mathlib.Core.Bool.{Bool, true, false, true≢false}
-use mathlib.Core.Logic.{_⊎_, inl, inr, _↔_}
+use mathlib.Core.Logic.{_↔_}
 use mathlib.Core.List.{List, [], _∷_, _++_, List·Memᴰ·head, List·Memᴰ·tail}
 use lib.ListN.{length, length-append}
 use lib.Dec.{eqb}
@@ -153,15 +154,3 @@ module _ (Γ : Alphabet) where
       (λ d. omega (arith, none-occur n v h d, none-occur n w k d))
       (omega (arith, core-length Γ v, reduce-length Γ v)) (omega (arith, core-length Γ w, reduce-length Γ w)) c in
       omega (arith, f, length-append (lead Γ v) (u ++ g), length-append u g, undo-length inv (lead Γ w) [])
-
-  -- for any two words: a conjugating word of that length, or none of any length
-  pub joining : (n : ℕ) (v w : Word Γ) → All (λ a. (1 ≤ cmd a) × (cmd a ≤ n)) v
-      → All (λ a. (1 ≤ cmd a) × (cmd a ≤ n)) w
-      → ((u : Word Γ) × (conj Γ u v ≈ w) × (length u ≤ n * (length v + length w))) ⊎ ((u : Word Γ) → ¬ (conj Γ u v ≈ w))
-  joining n v w h k = go (joined? Γ v w) refl
-    where
-      go : (b : Bool) → joined? Γ v w ≡ b
-          → ((u : Word Γ) × (conj Γ u v ≈ w) × (length u ≤ n * (length v + length w)))
-          ⊎ ((u : Word Γ) → ¬ (conj Γ u v ≈ w))
-      go true t = inl (lead-in Γ v w, lead-in-conj v w t, lead-in-length n v w t h k)
-      go false t = inr (apart-exact v w .0 t)

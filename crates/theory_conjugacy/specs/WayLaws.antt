@@ -7,10 +7,9 @@ use Rattle.theory_words.specs.Trace.{Pick, here, next}
 use Rattle.theory_words.specs.Group as Group
 use Rattle.theory_words.specs.Group.{undo, conj, keep, trade, drop, then, back}
 use Rattle.theory_words.specs.TraceLaws.{~-sym, ~-after, pick-front, pick-along, dep-sym}
-use Rattle.theory_words.specs.TraceLaws.{Apart, apart-factors, apart-along, apart-pass}
+use Rattle.theory_words.specs.TraceLaws.{Apart, apart-factors, apart-along}
 use Rattle.theory_words.specs.GroupLaws.{~→≈, ≈-of-≡, ≈-refl, ≈-before, ≈-after, drop-back, ≈-undo, ≈-undo-onto}
-use Rattle.theory_words.specs.GroupLaws.{undo-append, undo-after, undo-cancel, cancel-undo, conj-of, conj-nil}
-use Rattle.theory_words.specs.GroupLaws.{conj-append, ≈-conj, ≈-conj-by}
+use Rattle.theory_words.specs.GroupLaws.{undo-append, undo-after, conj-of}
 use Rattle.theory_conjugacy.specs.WordLaws.{~-of-≡}
 use Rattle.theory_conjugacy.specs.Turn.{Turns, same, also}
 use Rattle.theory_conjugacy.specs.TurnLaws.{turns-pick}
@@ -29,11 +28,6 @@ module _ (Γ : Alphabet) where
   -- cycling a letter is conjugating by it
   pub conj-pick : {a : Letter} {x r : Word Γ} → Pick Γ a x r → conj Γ (a ∷ []) x ≈ (r ++ a ∷ [])
   conj-pick {a} {x} p = conj-of Γ (a ∷ []) x (~→≈ Γ (~-after Γ (pick-front Γ p) (a ∷ [])))
-
-  pub run-conj : {x f y : Word Γ} → Run Γ x f y → conj Γ f x ≈ y
-  run-conj {x} (stop e) = then (≈-of-≡ Γ (conj-nil Γ x)) (~→≈ Γ e)
-  run-conj {x} (step {a = a} {f = f} p k) =
-      then (≈-of-≡ Γ (conj-append Γ (a ∷ []) f x)) (then (≈-conj Γ f (conj-pick p)) (run-conj k))
 
   pub run-turns : {x f y : Word Γ} → Run Γ x f y → Turns Γ x y
   run-turns (stop e) = same e
@@ -62,19 +56,6 @@ module _ (Γ : Alphabet) where
   centre-append {x} {n = n} (itself {m = m} k) l = rw (append-assoc x m n) (itself (centre-append k l))
   centre-append {x} {n = n} (minus {m = m} k) l = rw (← undo-after inv x m n) (minus (centre-append k l))
   centre-append (free a k) l = free a (centre-append k l)
-
-  pub centre-commutes : {x m : Word Γ} → Centre Γ x m → (x ++ m) ≈ (m ++ x)
-  centre-commutes {x} nothing = ≈-of-≡ Γ (append-nil x)
-  centre-commutes {x} (itself {m = m} k) =
-      then (≈-before Γ x (centre-commutes k)) (≈-of-≡ Γ (sym (append-assoc x m x)))
-  centre-commutes {x} (minus {m = m} k) =
-      then (cancel-undo Γ x m)
-      (then (back (undo-cancel Γ x m))
-      (then (≈-undo-onto Γ x (centre-commutes k)) (≈-of-≡ Γ (undo-after inv x m x))))
-  centre-commutes {x} (free {a = a} {m = m} i k) = then (back (~→≈ Γ (apart-pass Γ a x i m))) (keep (centre-commutes k))
-
-  pub centre-conj : {x m : Word Γ} → Centre Γ x m → conj Γ m x ≈ x
-  centre-conj {x} {m} k = conj-of Γ m x (centre-commutes k)
 
   pub centre-along : {x y n : Word Γ} → x ~ y → Centre Γ y n → (m : Word Γ) × Centre Γ x m × (n ≈ m)
   centre-along e nothing = ([], nothing, ≈-refl Γ [])
@@ -132,12 +113,6 @@ module _ (Γ : Alphabet) where
   pub way-centre : {x m u y : Word Γ} → Centre Γ x m → Way Γ x u y → Way Γ x (m ++ u) y
   way-centre {m = m} k (goes {m = n} {f = g} l o e) =
       goes (centre-append k l) o (then (≈-before Γ m e) (≈-of-≡ Γ (sym (append-assoc m n g))))
-
-  -- whatever goes such a way conjugates
-  pub way-conj : {x u y : Word Γ} → Way Γ x u y → conj Γ u x ≈ y
-  way-conj {x} (goes {m = m} {f = f} k l e) =
-      then (≈-conj-by Γ e x)
-      (then (≈-of-≡ Γ (conj-append Γ m f x)) (then (≈-conj Γ f (centre-conj k)) (run-conj l)))
 
   pub way-turns : {x u y : Word Γ} → Way Γ x u y → Turns Γ x y
   way-turns (goes k l e) = run-turns l

@@ -3,7 +3,7 @@
 use Prim.Native.Nat.{suc, _+_, _≤_}
 use mathlib.Core.Path.{_≡_, refl, sym, _∙_, ap, subst}
 use mathlib.Core.Bool.{Bool, true, false, true≢false}
-use mathlib.Core.List.{[], _∷_, _++_, reverse, reverse-reverse, append-assoc}
+use mathlib.Core.List.{[], _∷_, _++_, reverse, reverse-reverse}
 use mathlib.Core.Logic.{_↔_}
 use mathlib.Core.Option.{Option, none, some}
 use lib.ListN.{length, length-reverse}
@@ -14,12 +14,12 @@ use Rattle.theory_words.specs.Trace.{Pick, here, there, First, done, con
 use Rattle.theory_words.specs.Group as Group
 use Rattle.theory_words.specs.Group.{Reduced, undo, empty, keep, trade, drop, then, back}
 use Rattle.theory_words.specs.Reduce.{without, without-step, act, act-step, reduce}
-use Rattle.theory_words.specs.TraceLaws.{dep-sym, dep-not, ~-refl, ~-sym, ~-length, ~-before, ~-after}
+use Rattle.theory_words.specs.TraceLaws.{dep-sym, dep-not, ~-refl, ~-sym, ~-length}
 use Rattle.theory_words.specs.TraceLaws.{pick-front, pick-along, pick-unique, pick-length, first-along}
 use Rattle.theory_words.specs.TraceLaws.{not-first-nil, not-first-cons, pick-diamond}
 use Rattle.theory_words.specs.TraceLaws.{Splits, early, late, pick-after, pick-past, pick-split}
 use Rattle.theory_words.specs.GroupLaws.{dep-inv, dep-inv-right, ≈-refl, ≈-of-≡, ~→≈, drop-back, ≈-reverse}
-use Rattle.theory_words.specs.GroupLaws.{undo-onto, undo-twice, undo-length, ≈-undo, apart-undo, pick-undo}
+use Rattle.theory_words.specs.GroupLaws.{undo-onto, undo-twice, undo-length, ≈-undo, apart-undo}
 
 module _ (Γ : Alphabet) where
   open Alphabet Γ using (Letter, inv)
@@ -184,10 +184,6 @@ module _ (Γ : Alphabet) where
   reduce-≈ [] = empty
   reduce-≈ (a ∷ w) = then (act-≈ (acts a (reduce Γ w))) (keep (reduce-≈ w))
 
-  -- words that reduce to one word up to swaps are equal
-  pub reduce-back : (u v : Word Γ) → reduce Γ u ~ reduce Γ v → u ≈ v
-  reduce-back u v e = then (back (reduce-≈ u)) (then (~→≈ Γ e) (reduce-≈ v))
-
   pub reduce-fixed : (w : Word Γ) → Reduced Γ w → reduce Γ w ≡ w
   unfolding reduce
   reduce-fixed [] r = refl
@@ -287,13 +283,3 @@ module _ (Γ : Alphabet) where
           let x = undo Γ p [] in
           let f = pick-past Γ x (apart-undo Γ (inv a) p [] k tt) here in
           n (inv a) (t, o) (subst (First Γ (inv a)) (sym ends) (x ++ [], f))
-
-  -- and if it is reduced, none does
-  pub reduced-seam : (p q : Word Γ) → Reduced Γ (p ++ q) → (c : Letter) → First Γ c q → ¬ First Γ c (undo Γ p [])
-  reduced-seam p q r c (t, o) (s, k) =
-      let x = undo Γ s [] in
-      let y = x ++ inv c ∷ [] in
-      let e : (p ++ q) ~ (y ++ c ∷ t) = next (~-after Γ (pick-undo Γ p k) q) (~-before Γ y (pick-front Γ o)) in
-      let d : Reduced Γ (x ++ (inv c ∷ c ∷ t)) = rw (append-assoc x (inv c ∷ []) (c ∷ t)) at (reduced-along e r) in
-      let n : ¬ First Γ (inv (inv c)) (c ∷ t) = reduced-suffix x (inv c ∷ c ∷ t) d .0 in
-      (rw (Γ .inv-inv c) at n) (t, here)

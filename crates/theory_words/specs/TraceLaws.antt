@@ -3,7 +3,6 @@ use mathlib.Core.Path.{_≡_, refl, sym, _∙_, ap, subst}
 use mathlib.Core.Bool.{true, false, true≢false}
 use mathlib.Core.List.{[], _∷_, _++_, reverse, reverseAux}
 use lib.ListN.{length}
-use native.Mathlib.Omega.{arith}
 use Prim.Native.Nat.{suc}
 use Rattle.theory_words.specs.Alphabet.{Alphabet, Word, dep}
 use Rattle.theory_words.specs.Trace as Trace
@@ -65,13 +64,6 @@ module _ (Γ : Alphabet) where
 
   pub ~-reverse : {v w : Word Γ} → v ~ w → reverse v ~ reverse w
   ~-reverse e = ~-reverse-aux e []
-
-  pub ~-nil : {v : Word Γ} → v ~ [] → v ≡ []
-  ~-nil {v} e = go v (~-length e)
-    where
-      go : (x : Word Γ) → length x ≡ 0 → x ≡ []
-      go [] h = refl
-      go (a ∷ x) h = absurd (omega arith)
 
   pub pick-front : {c : Letter} {w r : Word Γ} → Pick Γ c w r → w ~ (c ∷ r)
   pick-front (here {w = w}) = ~-refl _
