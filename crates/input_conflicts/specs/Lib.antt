@@ -10,4 +10,3 @@ pub mod Marks
 pub mod MarksLaws
 pub mod ReadLaws
 pub mod Reading
-pub mod Cases

@@ -1,8 +1,9 @@
--- Laws of the definitions of the crate spec; the demands, each proved as a value of its statement (DemandsMet), and the
--- starred cases (CasesHold).
+-- Laws of the definitions of the crate spec; the demands, each proved as a value of its statement (DemandsMet), the
+-- starred cases (CasesHold), and small catalogues with the line that refuses each (CatalogueCases).
 pub mod TableLaws
 pub mod SearchLaws
 pub mod CatalogueLaws
+pub mod CatalogueCases
 pub mod ConflictLaws
 pub mod PlanLaws
 pub mod CommandLaws

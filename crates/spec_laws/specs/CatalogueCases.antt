@@ -1,4 +1,5 @@
--- Catalogues of a few bytes and the line of document 01's table that refuses each, computed from the definitions.
+-- For the reader, and cited by no other file: catalogues of a few bytes and the line of document 01's table that refuses
+-- each, computed from the definitions.
 use Prim.Native.Nat.{ℕ}
 use mathlib.Core.Path.{_≡_, refl}
 use mathlib.Core.Bool.{true, false}
@@ -7,6 +8,7 @@ use mathlib.Core.Option.{Option, none, some}
 use Rattle.spec.specs.Table.{Line, line, firstLine, firstOf}
 use Rattle.spec.specs.Catalogue.{ends, follow, stands, catalogueLines}
 use Rattle.spec.specs.Conflict.{conflict}
+use Rattle.spec.specs.Cases.{K}
 
 abbrev lineFor : List ℕ → Option Line
 lineFor c = firstLine (catalogueLines c)
@@ -55,10 +57,7 @@ size-first : lineFor (25 ∷ 0 ∷ []) ≡ some (line 1 0 0)
 unfolding firstOf
 size-first = refl
 
--- document 01's catalogue K: conflicts 1-2, 2-3, 3-4
-abbrev K : List ℕ
-K = 4 ∷ 3 ∷ 1 ∷ 2 ∷ 3 ∷ 0 ∷ 2 ∷ 0 ∷ 3 ∷ 0 ∷ 4 ∷ 0 ∷ []
-
+-- document 01's catalogue K
 K-passes : lineFor K ≡ none
 unfolding firstOf ends follow stands
 K-passes = refl
