@@ -23,7 +23,8 @@ use Rattle.spec.specs.Framing.{Framed, wellFramed, catalogueOf, plan1Of,
 pub record Demand1 : Type 1 where
   pub refused-exactly : {A : Type 0} (ls : List (Option Line)) (a : A) (l : Line)
       → (orElse (firstLine ls) a ≡ refused l) ↔ FirstHolds l ls
-  pub given-exactly : {A : Type 0} (ls : List (Option Line)) (a : A) → (orElse (firstLine ls) a ≡ given a) ↔ NoneHolds ls
+  pub given-exactly : {A : Type 0} (ls : List (Option Line)) (a : A)
+      → (orElse (firstLine ls) a ≡ given a) ↔ NoneHolds ls
   pub untouched : (ls : List (Option Line)) (bytes area : List ℕ) {l : Line} → FirstHolds l ls
       → areaAfter (firstLine ls) bytes area ≡ area
 

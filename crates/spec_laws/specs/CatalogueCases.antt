@@ -1,5 +1,5 @@
--- For the reader, and cited by no other file: catalogues of a few bytes and the line of document 01's table that refuses
--- each, computed from the definitions.
+-- For the reader, and cited by no other file: catalogues of a few bytes and the line of document 01's table that
+-- refuses each, computed from the definitions.
 use Prim.Native.Nat.{ℕ}
 use mathlib.Core.Path.{_≡_, refl}
 use mathlib.Core.Bool.{true, false}

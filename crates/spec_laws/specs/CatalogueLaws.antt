@@ -1,5 +1,5 @@
--- For the reader, and cited by no other file: a chain that has not ended within R records never ends, so line 5 is about
--- chains of any length; and one that has ended has the same commands however many more records are allowed.
+-- For the reader, and cited by no other file: a chain that has not ended within R records never ends, so line 5 is
+-- about chains of any length; and one that has ended has the same commands however many more records are allowed.
 use Prim.Native.Nat.{ℕ, zero, suc, _≤_, _<_}
 use native.Mathlib.Decide.{ℕ-discrete}
 use native.Mathlib.Omega.{arith}

@@ -1,4 +1,4 @@
--- For the reader, and cited by no other file: the demands are met, each is one value of its statement in the crate spec.
+-- For the reader, and cited by no other file: the demands are met, each is a value of its statement in the crate spec.
 use Prim.Native.Nat.{ℕ, _≤_}
 use mathlib.Core.Path.{_≡_, refl, sym, _∙_, ap}
 use mathlib.Core.Bool.{Bool, true}

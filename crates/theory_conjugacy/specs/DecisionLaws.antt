@@ -1,6 +1,6 @@
 -- The decision is exact: `joined?` answers true exactly where some word conjugates the first word to the second, and
--- then `lead-in` is such a word, of at most N times the letters of both where the commands are 1 to N. The first and the
--- last of these, joined-exact and lead-in-length, stand for the reader.
+-- then `lead-in` is such a word, of at most N times the letters of both where the commands are 1 to N. The first and
+-- the last of these, joined-exact and lead-in-length, stand for the reader.
 use Prim.Native.Nat.{ℕ, zero, suc, _+_, _*_, _≤_}
 use native.Mathlib.Nat.{mul-add, add-mul, mul-le-mul-left, mul-le-mul-right}
 use native.Mathlib.Omega.{arith}
