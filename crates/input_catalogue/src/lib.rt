@@ -15,13 +15,13 @@ pub enum Checked {
     Refused(Refusal),
 }
 
-// A refusal of the catalogue, which counts as plan 0.
-pub fn refused(reason: Reason, place: usize) -> Checked
-    ensures { λ r. ⌜ toldChecked r ≡ refusedBy (line (numberOf reason) 0 place) ⌝ }
+// The plan of this number is refused, for this reason and at this place; the catalogue counts as plan 0.
+pub fn refused(reason: Reason, plan: u8, place: usize) -> Checked
+    ensures { λ r. ⌜ toldChecked r ≡ refusedBy (line (numberOf reason) plan place) ⌝ }
 {
     Checked::Refused(Refusal {
         reason,
-        plan: 0,
+        plan,
         place,
     })
 }
@@ -31,14 +31,14 @@ fn framed(c: &[u8]) -> Checked
     ensures { λ r. ⌜ Decides (now (c .entry)) (frameLine (now (c .entry))) r ⌝ }
 {
     if c.len() < 2 {
-        return refused(Reason::CatalogueSize, 0);
+        return refused(Reason::CatalogueSize, 0, 0);
     }
     let n = c[0] as usize;
     if c.len() != 2 + n + 2 * (c[1] as usize) {
-        return refused(Reason::CatalogueSize, 0);
+        return refused(Reason::CatalogueSize, 0, 0);
     }
     if 24 < n {
-        return refused(Reason::CommandCount, 0);
+        return refused(Reason::CommandCount, 0, 0);
     }
     Checked::Passed(n)
 }
@@ -52,7 +52,7 @@ fn heads(c: &[u8]) -> Checked
     let mut a = 1;
     while a <= n {
         if c[1] < c[1 + a] {
-            return refused(Reason::Index, 1 + a);
+            return refused(Reason::Index, 0, 1 + a);
         }
         a += 1;
     }
@@ -69,7 +69,7 @@ fn nexts(c: &[u8]) -> Checked
     let mut j = 1;
     while j <= r {
         if c[1] < c[n + 2 * j + 1] {
-            return refused(Reason::Index, n + 2 * j + 1);
+            return refused(Reason::Index, 0, n + 2 * j + 1);
         }
         j += 1;
     }
@@ -87,7 +87,7 @@ fn named(c: &[u8]) -> Checked
     while j <= r {
         let k = c[n + 2 * j];
         if k == 0 || c[0] < k {
-            return refused(Reason::RecordCommand, n + 2 * j);
+            return refused(Reason::RecordCommand, 0, n + 2 * j);
         }
         j += 1;
     }

@@ -122,7 +122,7 @@ fn each_chain(
     let mut a = 1;
     while a <= n {
         if !chain_of(c, a, rows, own, firsts) {
-            return refused(Reason::EndlessChain, 1 + a);
+            return refused(Reason::EndlessChain, 0, 1 + a);
         }
         a += 1;
     }
@@ -138,7 +138,7 @@ fn own_chain(c: &[u8], rows: &[[u16; 24]; 24]) -> Checked
     let mut a = 1;
     while a <= n {
         if rows[a - 1][a - 1] != 0 {
-            return refused(Reason::OwnChain, 1 + a);
+            return refused(Reason::OwnChain, 0, 1 + a);
         }
         a += 1;
     }

@@ -1,14 +1,14 @@
 // Plans of bytes: lines 7 and 8 of document 01's table, over any bytes of any length, and the undo of a byte.
 
 use input_catalogue::Checked;
+use input_catalogue::refused;
 use spec::Reason;
-use spec::Refusal;
 ghost use Prim.Native.Nat.{_<_};
 ghost use mathlib.Core.Path.{_≡_};
 ghost use mathlib.Core.Bool.{true};
 ghost use mathlib.Core.Logic.{_↔_};
 ghost use lib.ListN.{length};
-ghost use Rattle.spec.specs.Table.{numberOf, line, refused, orElse, firstLine};
+ghost use Rattle.spec.specs.Table.{orElse, firstLine};
 ghost use Rattle.input_catalogue.specs.Checked.{toldChecked};
 ghost use Rattle.spec.specs.Plan.{passes, firstBad, planLines, Passing};
 ghost use Rattle.spec.specs.Byte.{undone};
@@ -89,28 +89,17 @@ fn first_bad(plan: &[u8], commands: usize) -> Place
     find_bad(plan, commands)
 }
 
-// This plan is refused, for this reason and at this place.
-fn refuse(reason: Reason, plan: u8, place: usize) -> Checked
-    ensures { λ r. ⌜ toldChecked r ≡ refused (line (numberOf reason) plan place) ⌝ }
-{
-    Checked::Refused(Refusal {
-        reason: reason,
-        plan: plan,
-        place: place,
-    })
-}
-
 // Lines 7 and 8 for the plan of this number, of at most so many bytes; a plan that passes gives its length.
 pub fn check(plan: &[u8], commands: usize, number: u8, limit: usize) -> Checked
     ensures { λ r. ⌜ toldChecked r
         ≡ orElse (firstLine (planLines number limit commands (now (plan .entry)))) (length (now (plan .entry))) ⌝ }
 {
     if limit < plan.len() {
-        return refuse(Reason::PlanSize, number, 0);
+        return refused(Reason::PlanSize, number, 0);
     }
     match first_bad(plan, commands) {
         Place::Nowhere => Checked::Passed(plan.len()),
-        Place::At(i) => refuse(Reason::PlanByte, number, i),
+        Place::At(i) => refused(Reason::PlanByte, number, i),
     }
 }
 

@@ -10,7 +10,7 @@ use Rattle.input_plan.proofs.check.Tie as tie
 returns : tie.Need-returns
 returns c =
     let a = c .before .before .before .args in
-    c .refuse .ensures ∙ answer-long (a .number) (a .limit) (a .commands) (a .plan .now) (omega arith)
+    c .refused .ensures ∙ answer-long (a .number) (a .limit) (a .commands) (a .plan .now) (omega arith)
 
 returns-2 : tie.Need-returns-2
 returns-2 c =
@@ -24,7 +24,7 @@ returns-3 c =
     let i = c .before .before in
     let f = i .before .before in
     let a = f .before .before .before .args in
-    c .refuse2 .ensures
+    c .refused2 .ensures
     ∙ answer-byte (a .number) (a .limit) (a .commands) (a .plan .now) (omega arith) (f .first-bad .ensures)
     (ap toldPlace (i .i .given .1))
 
