@@ -38,19 +38,7 @@ pub fn number(reason: Reason) -> u8
 fn refusal_code(reason: Reason) -> i64
     ensures { λ r. ⌜ r ≡ negℤ (pos (numberOf reason)) ⌝ }
 {
-    match reason {
-        Reason::CatalogueSize => -1,
-        Reason::CommandCount => -2,
-        Reason::Index => -3,
-        Reason::RecordCommand => -4,
-        Reason::EndlessChain => -5,
-        Reason::OwnChain => -6,
-        Reason::PlanSize => -7,
-        Reason::PlanByte => -8,
-        Reason::AreaSize => -9,
-        Reason::Unsettled => -10,
-        Reason::Framing => -11,
-    }
+    -(number(reason) as i64)
 }
 
 pub fn length_code(answer: Written) -> i64
