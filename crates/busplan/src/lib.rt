@@ -1,7 +1,7 @@
 // The calls on bus plans that are open to callers, each from a crate of its own, and the functions for callers from C.
 // A call takes any bytes as catalogue and plans and answers with a result or with exactly one refusal of document 01's
-// table; a refusal changes no byte of an area. The crate spec defines what each call answers (specs/Calls.antt) and
-// shows what that is worth (specs/Demands.antt).
+// table; a refusal changes no byte of an area. The crate spec defines what each call answers (specs/Calls.antt,
+// specs/Loops.antt) and states what that is worth (specs/Demands.antt).
 
 mod console;
 

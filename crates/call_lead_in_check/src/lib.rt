@@ -1,22 +1,21 @@
-// The call that checks a lead-in. The crate spec defines what it answers (specs/Loops.antt).
-// The lead-in check of plans that have passed their checks: the normal forms of v·u and u·w, and whether they are the
-// same.
+// The call that checks a lead-in: it writes the normal forms of v·u and u·w and tells whether they are the same. The
+// crate spec defines what it answers (specs/Loops.antt).
 
+ghost use Prim.Native.Nat.{ℕ, _+_, _≤_};
+ghost use mathlib.Core.List.{List};
 ghost use mathlib.Core.Path.{_≡_};
+ghost use lib.ListN.{length};
 ghost use Rattle.spec.specs.Table.{given};
 ghost use Rattle.spec.specs.Answers.{toldLeadIn};
 ghost use Rattle.spec.specs.Loops.{checkAnswer, checkArea0, checkArea1};
 ghost use Rattle.input_checks.specs.Entry.{SameRefusal};
+ghost use Rattle.call_lead_in_check.specs.Checking.{Joined, Factors, Multiplied, Checkable, CheckedIn};
 use array_row::append;
 use array_row::same_bytes;
 use input_catalogue::Checked;
 use long_form::form;
 use spec::LeadIn;
 use spec::Lengths;
-ghost use Prim.Native.Nat.{ℕ, _+_, _≤_};
-ghost use mathlib.Core.List.{List};
-ghost use lib.ListN.{length};
-ghost use Rattle.call_lead_in_check.specs.Checking.{Joined, Factors, Multiplied, Checkable, CheckedIn};
 
 // Whether the two normal forms are equal, and their lengths.
 pub struct Both {

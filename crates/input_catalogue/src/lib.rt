@@ -1,5 +1,5 @@
-// The form of a catalogue: lines 1 to 4 of document 01's table, each decided over the whole catalogue before the next.
-// specs/Catalogue.antt states the lines and specs/Conflict.antt the conflicts that the chains tell.
+// The form of a catalogue: `check` decides lines 1 to 4 of document 01's table for any bytes, each line over the whole
+// catalogue before the next. The crate spec states the lines (specs/Catalogue.antt).
 
 ghost use mathlib.Core.Path.{_≡_};
 ghost use Rattle.spec.specs.Table.{line, numberOf, refused as refusedBy};

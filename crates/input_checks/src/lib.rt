@@ -1,5 +1,6 @@
-// The checks that every call goes through first: the catalogue, then its plans in their order. Passed carries the
-// number of commands, and then the rows hold the conflicts. Then the refusal of an area that is too small.
+// The checks that every call goes through first: the catalogue, then its plans in their order. An answer that passes
+// carries the number of commands, and the rows then hold the conflicts. `small_area` is the refusal of an area, which
+// comes after.
 
 ghost use Prim.Native.Nat.{ℕ};
 ghost use mathlib.Core.Path.{_≡_};
@@ -8,7 +9,7 @@ ghost use mathlib.Core.Option.{Option};
 ghost use Rattle.spec.specs.Table.{Line, line, lineOf};
 ghost use Rattle.spec.specs.Catalogue.{commands};
 ghost use Rattle.spec.specs.Plan.{planLines};
-ghost use Rattle.input_conflicts.specs.Marks.{Blank};
+ghost use Rattle.input_conflicts.specs.MarkedRows.{Blank};
 ghost use Rattle.input_checks.specs.Entry.{Told, OnePlan, TwoPlans, ThreePlans};
 use input_catalogue::Checked;
 use spec::Reason;

@@ -11,11 +11,11 @@ use borrow.Author.Tests.{ne-eqb, lt-ltb, le-ltb, lt-leb}
 use Rattle.spec.specs.Catalogue.{commands, records, head, ends, follow, chain, stands}
 use Rattle.input_conflicts.specs.Conflicts.{bit, Conflicts}
 use Rattle.spec.specs.Conflict.{conflict}
-use Rattle.input_conflicts.specs.Pairs.{cell, Shape, pairs}
-use Rattle.input_conflicts.specs.Marks.{Blank, diagonal, Met}
+use Rattle.input_conflicts.specs.Marking.{cell, Shape, pairs}
+use Rattle.input_conflicts.specs.MarkedRows.{Blank, diagonal, Met}
 use Rattle.input_conflicts.specs.Known.{met, Chained}
-use Rattle.input_conflicts.specs.PairsLaws.{Fit, over-bit, pairs-shape, pairs-cell}
-use Rattle.input_conflicts.specs.MarksLaws.{ltb-more, diagonal-shape, diagonal-cell}
+use Rattle.input_conflicts.specs.MarkingLaws.{Fit, over-bit, pairs-shape, pairs-cell}
+use Rattle.input_conflicts.specs.MarkedRowsLaws.{ltb-more, diagonal-shape, diagonal-cell}
 use Rattle.input_catalogue.specs.Sound.{Sound}
 
 -- the test of line 5

@@ -14,9 +14,9 @@ use Rattle.spec.specs.Catalogue.{commands, records, head, headPlace, ends, chai
 use Rattle.input_conflicts.specs.Conflicts.{bit}
 use Rattle.input_catalogue.specs.Sound.{Sound}
 use Rattle.input_catalogue.specs.SoundLaws.{head-at}
-use Rattle.input_conflicts.specs.Pairs.{cell, pairs, notes, members}
-use Rattle.input_conflicts.specs.Marks.{Blank}
-use Rattle.input_conflicts.specs.PairsLaws.{Fit, notes-shape, notes-cell}
+use Rattle.input_conflicts.specs.Marking.{cell, pairs, notes, members}
+use Rattle.input_conflicts.specs.MarkedRows.{Blank}
+use Rattle.input_conflicts.specs.MarkingLaws.{Fit, notes-shape, notes-cell}
 use Rattle.input_conflicts.specs.MembersLaws.{members-fit, members-stand}
 use Rattle.input_conflicts.specs.WalkLaws.{follow-fit}
 use Rattle.input_conflicts.specs.Known.{NoneKnown, Chained, Walked, Known}

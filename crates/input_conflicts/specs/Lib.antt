@@ -1,12 +1,12 @@
-pub mod Pairs
-pub mod PairsLaws
+pub mod Marking
+pub mod MarkingLaws
 pub mod MembersLaws
 pub mod WalkLaws
 pub mod Conflicts
 pub mod ChainLaws
 pub mod Known
 pub mod KnownLaws
-pub mod Marks
-pub mod MarksLaws
-pub mod ReadLaws
+pub mod MarkedRows
+pub mod MarkedRowsLaws
+pub mod ReadingLaws
 pub mod Reading

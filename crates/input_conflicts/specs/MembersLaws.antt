@@ -10,8 +10,8 @@ use lib.Seq.{drop-cons}
 use borrow.Author.Tests.{eq-eqb, ne-eqb}
 use Rattle.spec.specs.Catalogue.{stands}
 use Rattle.input_conflicts.specs.Conflicts.{bit}
-use Rattle.input_conflicts.specs.Pairs.{Shape, pairs, member, members, markedIf}
-use Rattle.input_conflicts.specs.PairsLaws.{Fit, pair-shape}
+use Rattle.input_conflicts.specs.Marking.{Shape, pairs, member, members, markedIf}
+use Rattle.input_conflicts.specs.MarkingLaws.{Fit, pair-shape}
 
 -- the members of a row of flags
 

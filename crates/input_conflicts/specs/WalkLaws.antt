@@ -12,8 +12,8 @@ use borrow.Author.Tests.{ne-eqb}
 use Rattle.spec.specs.Catalogue.{commands, records, head, headPlace, command, next, ends, follow, chain}
 use Rattle.input_catalogue.specs.Sound.{Sound}
 use Rattle.input_catalogue.specs.SoundLaws.{head-at}
-use Rattle.input_conflicts.specs.Pairs.{Shape, pair, pairs, note, notes}
-use Rattle.input_conflicts.specs.PairsLaws.{Fit, put-shape, pair-shape}
+use Rattle.input_conflicts.specs.Marking.{Shape, pair, pairs, note, notes}
+use Rattle.input_conflicts.specs.MarkingLaws.{Fit, put-shape, pair-shape}
 
 module _ (c : List ℕ) (s : Sound c) where
   -- every command of a chain is one

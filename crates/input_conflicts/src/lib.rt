@@ -1,22 +1,23 @@
-// Reading a catalogue: its chains give lines 5 and 6 of document 01's table and the conflicts. A chain that several
-// commands have is walked once.
-// The marks of one chain: two commands of which one stands in the chain of the other are marked in the rows of both.
+// Reading a catalogue: `read` decides lines 1 to 6 of document 01's table for any bytes and, where none holds, leaves
+// the conflicts in the rows. Two commands of which one stands in the chain of the other are marked in the rows of both;
+// a chain that several commands have is walked once.
 
 ghost use mathlib.Core.Path.{_≡_};
 ghost use mathlib.Core.Bool.{true};
+ghost use mathlib.Core.List.{[]};
 ghost use mathlib.Core.Option.{none};
+ghost use lib.ListN.{getD};
 ghost use Prim.Native.Nat.{_+_, _-_, _≤_};
 ghost use Rattle.spec.specs.Catalogue.{commands, records, head, ends, chain, endlessLine, ownLine};
 ghost use Rattle.input_catalogue.specs.Sound.{Decides, Framed, Sound};
-ghost use Rattle.input_conflicts.specs.Pairs.{Shape, pair, pairs, note, notes, members, markedIf};
-ghost use Rattle.input_conflicts.specs.Marks.{Blank, Met, diagonal as diagonalOf};
+ghost use Rattle.input_conflicts.specs.Marking.{Shape, pair, pairs, note, notes, members, markedIf};
+ghost use Rattle.input_conflicts.specs.MarkedRows.{Blank, Met, diagonal as diagonalOf};
 ghost use Rattle.input_conflicts.specs.Known.{NoneKnown, Chained, Known};
 ghost use Rattle.input_conflicts.specs.Reading.{Reading};
 use input_catalogue::Checked;
 use input_catalogue::refused;
 use spec::Reason;
-ghost use mathlib.Core.List.{[]};
-ghost use lib.ListN.{getD};
+
 // Marks that two commands conflict, in the rows of both.
 fn mark(a: usize, b: usize, rows: &mut [[u16; 24]; 24])
     requires { ⌜ Shape (now rows) ⌝ ∗ ⌜ 1 ≤ a ⌝ ∗ ⌜ a ≤ 24 ⌝ ∗ ⌜ 1 ≤ b ⌝ ∗ ⌜ b ≤ 24 ⌝ }

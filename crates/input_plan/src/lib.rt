@@ -1,4 +1,5 @@
-// Plans of bytes: lines 7 and 8 of document 01's table, over any bytes of any length, and the undo of a byte.
+// Plans of bytes: `check` decides lines 7 and 8 of document 01's table for any bytes of any length, and `undo` gives
+// the byte that undoes another.
 
 use input_catalogue::Checked;
 use input_catalogue::refused;

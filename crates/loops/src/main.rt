@@ -1,6 +1,6 @@
 // Reads a catalogue and two plans from standard input and prints whether the two loops are joined, apart or refused.
-// specs/Program.antt says which answer an input gets, crate loops_framing what is well framed, crate loops_listing what
-// is printed.
+// The crate spec says which answer an input gets, what is well framed and what is printed (specs/Program.antt,
+// specs/Framing.antt, specs/Listing.antt).
 
 ghost use mathlib.Core.Path.{_≡_};
 ghost use Prim.Native.Nat.{_≤_};
@@ -37,6 +37,7 @@ fn input_area() -> [u8; 4097]
     [0; 4097]
 }
 
+// Line 11.
 fn badly_framed() -> Refusal
     ensures { λ r. ⌜ lineOf r ≡ line 11 0 0 ⌝ }
 {

@@ -1,5 +1,5 @@
 // The input of the program loops: a catalogue, then two plans, each behind a count in two bytes, low byte first, and
-// nothing after. specs/Framing.antt says what is well framed and where the parts lie.
+// nothing after. The crate spec says what is well framed and where the parts lie (specs/Framing.antt).
 
 ghost use Prim.Native.Nat.{_+_, _<_, _≤_};
 ghost use mathlib.Core.Path.{_≡_};

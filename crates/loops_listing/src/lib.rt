@@ -1,4 +1,5 @@
-// What the program loops prints: a heading, then one line for its verdict. specs/Listing.antt states the text.
+// What the program loops prints: a heading, then one line for its verdict. The crate spec states the text
+// (specs/Listing.antt).
 
 ghost use Prim.Native.Nat.{_+_, _≤_};
 ghost use lib.ListN.{length, take};

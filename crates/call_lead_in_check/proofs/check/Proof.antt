@@ -1,4 +1,4 @@
--- `checking::check` meets its contract: both products, and the comparison of the starts of the areas. Assumes
+-- `call_lead_in_check::check` meets its contract: both products, and the comparison of the starts of the areas. Assumes
 -- nothing.
 use mathlib.Core.Path.{sym}
 use borrow.Author.Needs.{needs}

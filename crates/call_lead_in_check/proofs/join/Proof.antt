@@ -1,4 +1,4 @@
--- `checking::join` meets its contract: the second word is appended behind the first. Assumes nothing.
+-- `call_lead_in_check::join` meets its contract: the second word is appended behind the first. Assumes nothing.
 use borrow.Author.Needs.{needs}
 use Rattle.call_lead_in_check.specs.CheckingLaws.{appended-joined}
 use Rattle.call_lead_in_check.proofs.join.Statement.{statement}

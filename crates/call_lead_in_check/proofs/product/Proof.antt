@@ -1,4 +1,4 @@
--- `checking::product` meets its contract: `product_in`, with a row that is long enough. Assumes nothing.
+-- `call_lead_in_check::product` meets its contract: `product_in`, with a row that is long enough. Assumes nothing.
 use native.Mathlib.Omega.{arith}
 use borrow.Author.Needs.{needs}
 use Rattle.call_lead_in_check.proofs.product.Statement.{statement}

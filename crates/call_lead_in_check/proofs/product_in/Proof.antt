@@ -1,4 +1,4 @@
--- `checking::product_in` meets its contract: the normal form of what the row begins with. Assumes nothing.
+-- `call_lead_in_check::product_in` meets its contract: the normal form of what the row begins with. Assumes nothing.
 use mathlib.Core.Path.{sym}
 use lib.Seq.{length-take-le}
 use Rattle.call_lead_in_check.specs.CheckingLaws.{joined-given, joined-formable, joined-written}

@@ -1,5 +1,5 @@
 -- `blank` has no mark in any of its cells.
-use Rattle.input_conflicts.specs.MarksLaws.{blank-rows}
+use Rattle.input_conflicts.specs.MarkedRowsLaws.{blank-rows}
 use Rattle.input_conflicts.proofs.blank.Statement.{statement}
 use Rattle.input_conflicts.proofs.blank.Tie as tie
 

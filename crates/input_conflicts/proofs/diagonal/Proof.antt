@@ -2,8 +2,8 @@
 use Prim.Native.Nat.{_-_, _≤_}
 use native.Mathlib.Omega.{arith}
 use mathlib.Core.Path.{_≡_, refl, _∙_, ap}
-use Rattle.input_conflicts.specs.Marks.{diagonal}
-use Rattle.input_conflicts.specs.MarksLaws.{diagonal-more}
+use Rattle.input_conflicts.specs.MarkedRows.{diagonal}
+use Rattle.input_conflicts.specs.MarkedRowsLaws.{diagonal-more}
 use Rattle.input_conflicts.proofs.diagonal.Statement.{statement}
 use Rattle.input_conflicts.proofs.diagonal.Tie as tie
 

@@ -1,7 +1,7 @@
 -- `mark_if` marks or leaves the rows as they are.
 use native.Mathlib.Omega.{arith}
 use mathlib.Core.Path.{_∙_}
-use Rattle.input_conflicts.specs.PairsLaws.{marked-if}
+use Rattle.input_conflicts.specs.MarkingLaws.{marked-if}
 use borrow.Author.Needs.{needs}
 use Rattle.input_conflicts.proofs.mark_if.Statement.{statement}
 use Rattle.input_conflicts.proofs.mark_if.Tie as tie

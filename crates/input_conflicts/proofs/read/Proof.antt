@@ -4,7 +4,7 @@ use mathlib.Core.Option.{none}
 use Rattle.spec.specs.Catalogue.{orIf, endlessLine, ownLine}
 use Rattle.input_catalogue.specs.Sound.{soundLine}
 use Rattle.input_catalogue.specs.SoundLaws.{passed-none, then-passed, then-refused}
-use Rattle.input_conflicts.specs.ReadLaws.{sound-none, answers-passed, answers-refused}
+use Rattle.input_conflicts.specs.ReadingLaws.{sound-none, answers-passed, answers-refused}
 use Rattle.input_conflicts.specs.ChainLaws.{met-conflicts}
 use borrow.Author.Needs.{needs}
 use Rattle.input_conflicts.proofs.read.Statement.{statement}

@@ -1,4 +1,5 @@
--- Rows of marks, and the marks that a walk along a chain sets: two commands that meet are marked in the rows of both.
+-- Marking in rows of 24 numbers: two commands that conflict are marked in the rows of both, and which commands stand in
+-- the chain of command a is noted in row a.
 use Prim.Native.Nat.{ℕ, zero, suc, _+_, _-_, _<_}
 use mathlib.Core.Path.{_≡_}
 use mathlib.Core.List.{List, [], _∷_}
@@ -11,12 +12,15 @@ pub record Shape (rows : List (List ℕ)) : Type 0 where
   pub tall : length rows ≡ 24
   pub wide : (i : ℕ) → i < 24 → length (getD rows i []) ≡ 24
 
+-- a mark in row i at place j
 abbrev pub put : List (List ℕ) → ℕ → ℕ → List (List ℕ)
 put rows i j = set rows i (set (getD rows i []) j 1)
 
+-- commands a and b, each marked in the row of the other
 abbrev pub pair : List (List ℕ) → ℕ → ℕ → List (List ℕ)
 pair rows a b = put (put rows (a - 1) (b - 1)) (b - 1) (a - 1)
 
+-- the commands b of a list, each marked with a
 unfoldable pub pairs : List (List ℕ) → ℕ → List ℕ → List (List ℕ)
 pairs rows a [] = rows
 pairs rows a (b ∷ bs) = pairs (pair rows a b) a bs
@@ -38,6 +42,7 @@ unfoldable pub members : ℕ → List ℕ → List ℕ
 members k [] = []
 members k (f ∷ fs) = member k f (members (k + 1) fs)
 
+-- commands a and b marked if a flag is set
 abbrev pub markedIf : ℕ → List (List ℕ) → ℕ → ℕ → List (List ℕ)
 markedIf zero rows a b = rows
 markedIf (suc f) rows a b = pair rows a b

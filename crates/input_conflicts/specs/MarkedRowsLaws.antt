@@ -10,9 +10,9 @@ use lib.ListN.{replicate, getD-replicate}
 use lib.Dec.{eqb, ltb}
 use borrow.Author.Tests.{eq-eqb, ne-eqb, lt-ltb, le-ltb}
 use Rattle.spec.specs.AlphabetLaws.{eqb-sym}
-use Rattle.input_conflicts.specs.Pairs.{cell, Shape, put}
-use Rattle.input_conflicts.specs.PairsLaws.{over, put-shape, put-cell}
-use Rattle.input_conflicts.specs.Marks.{Blank, diagonal}
+use Rattle.input_conflicts.specs.Marking.{cell, Shape, put}
+use Rattle.input_conflicts.specs.MarkingLaws.{over, put-shape, put-cell}
+use Rattle.input_conflicts.specs.MarkedRows.{Blank, diagonal}
 
 abbrev zeros : List ℕ
 zeros = replicate 24 0

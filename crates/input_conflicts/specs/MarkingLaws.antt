@@ -1,4 +1,4 @@
--- Laws of marks: what each cell holds after a pair and a list of commands are marked or noted.
+-- Laws of marking: what each cell holds after a pair and a list of commands are marked or noted.
 use Prim.Native.Nat.{ℕ, zero, suc, _+_, _-_, _≤_, _<_}
 use native.Mathlib.Decide.{ℕ-discrete}
 use native.Mathlib.Omega.{arith}
@@ -11,7 +11,7 @@ use lib.Dec.{eqb}
 use borrow.Author.Tests.{eq-eqb, ne-eqb}
 use Rattle.input_conflicts.specs.Conflicts.{bit}
 use Rattle.spec.specs.Catalogue.{stands}
-use Rattle.input_conflicts.specs.Pairs.{cell, Shape, put, pair, pairs, note, notes, markedIf}
+use Rattle.input_conflicts.specs.Marking.{cell, Shape, put, pair, pairs, note, notes, markedIf}
 
 -- a cell that is marked if a test says so
 abbrev pub over : Bool → ℕ → ℕ
