@@ -14,7 +14,7 @@ use Rattle.spec.specs.Letters.{normalForm}
 use Rattle.call_lead_in_check.specs.declared.Both.{Both}
 
 -- the row begins with both words, up to `end`
-pub record Joined (first second row : List ℕ) (end : ℕ) : Type 0 where
+pub record Concatenated (first second row : List ℕ) (end : ℕ) : Type 0 where
   pub ends : end ≡ length first + length second
   pub begins : take end row ≡ first ++ second
 

@@ -16,13 +16,13 @@ use Rattle.long_form.specs.Reducing.{Given}
 use Rattle.long_form.specs.Forming.{Formable}
 use Rattle.array_row.specs.Row.{Appended}
 use Rattle.array_row.specs.RowLaws.{appended-length, appended-take}
-use Rattle.call_lead_in_check.specs.Checking.{Joined, Factors, Checkable, CheckedIn}
+use Rattle.call_lead_in_check.specs.Checking.{Concatenated, Factors, Checkable, CheckedIn}
 
 -- two words appended, the second behind the first
-pub appended-joined : {row₀ row₁ row₂ first second : List ℕ} {middle end : ℕ} → Appended row₀ 0 first row₁ middle
+pub appended-concatenated : {row₀ row₁ row₂ first second : List ℕ} {middle end : ℕ} → Appended row₀ 0 first row₁ middle
     → Appended row₁ middle second row₂ end → length first + length second ≤ length row₀
-    → Joined first second row₂ end
-appended-joined {row₀} {row₁} {second = second} a b h =
+    → Concatenated first second row₂ end
+appended-concatenated {row₀} {row₁} {second = second} a b h =
     let l : length row₁ ≡ length row₀ = appended-length a (omega (arith, a .ends)) in
     record {
       ends = omega (arith, a .ends, b .ends);
@@ -30,20 +30,20 @@ appended-joined {row₀} {row₁} {second = second} a b h =
           ∙ ap (λ (x : List ℕ). x ++ second) (appended-take a (omega (arith, a .ends)));
     }
 
-module _ {first second row : List ℕ} {end : ℕ} (j : Joined first second row end) {c : List ℕ}
+module _ {first second row : List ℕ} {end : ℕ} (j : Concatenated first second row end) {c : List ℕ}
     {conflicts : List (List ℕ)} {area : List ℕ} (f : Factors c conflicts first second area) where
-  pub joined-given : Given c conflicts (take end row)
-  joined-given = rw (j .begins) (record {
+  pub product-given : Given c conflicts (take end row)
+  product-given = rw (j .begins) (record {
     table = f .table;
     few = f .few;
     passing = passing-append (commands c) first second (f .left) (f .right);
     short = omega (arith, length-append first second, f .short);
   })
 
-  pub joined-formable : Formable 50176 c conflicts (take end row) area
-  joined-formable = record {
-    given = joined-given;
-    short = joined-given .short;
+  pub product-formable : Formable 50176 c conflicts (take end row) area
+  product-formable = record {
+    given = product-given;
+    short = product-given .short;
     fits = rw (j .begins) (omega (
       arith,
       letters-length (first ++ second),
@@ -52,10 +52,10 @@ module _ {first second row : List ℕ} {end : ℕ} (j : Joined first second row 
     ));
   }
 
-pub joined-written : (c : List ℕ) {first second row before after : List ℕ} {end r : ℕ} → Joined first second row end
-    → StartsWith (normalForm c (take end row)) before after r
+pub product-written : (c : List ℕ) {first second row before after : List ℕ} {end r : ℕ}
+    → Concatenated first second row end → StartsWith (normalForm c (take end row)) before after r
     → StartsWith (normalForm c (first ++ second)) before after r
-joined-written c j w = rw (j .begins) at w
+product-written c j w = rw (j .begins) at w
 
 module _ {c : List ℕ} {conflicts : List (List ℕ)} {v w u before0 before1 : List ℕ}
     (k : Checkable c conflicts v w u before0 before1) where

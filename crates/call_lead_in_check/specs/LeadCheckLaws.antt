@@ -84,7 +84,11 @@ module _ {c v w : List ℕ} (u : List ℕ) {rows : List (List ℕ)} {r : Checked
             let z : firstLine (checkLines c v w u area0 area1) ≡ none =
             late ∙ rw (le-ltb (length area0) (length v + length u) h, le-ltb (length area1) (length u + length w) i) in
             rw z (
-              j ∙ ap given (λ x. record { yes = s x; vu = starts-length (k .written0) x; uw = starts-length (k .written1) x }),
+              j ∙ ap given (λ x. record {
+                yes = s x;
+                vu = starts-length (k .written0) x;
+                uw = starts-length (k .written1) x;
+              }),
               starts-area (k .written0),
               starts-area (k .written1),
             )

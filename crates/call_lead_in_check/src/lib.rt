@@ -9,7 +9,7 @@ ghost use Rattle.spec.specs.Table.{given};
 ghost use Rattle.spec.specs.Answers.{toldLeadIn};
 ghost use Rattle.spec.specs.Loops.{checkAnswer, checkArea0, checkArea1};
 ghost use Rattle.input_checks.specs.Entry.{SameRefusal};
-ghost use Rattle.call_lead_in_check.specs.Checking.{Joined, Factors, Multiplied, Checkable, CheckedIn};
+ghost use Rattle.call_lead_in_check.specs.Checking.{Concatenated, Factors, Multiplied, Checkable, CheckedIn};
 use array_row::append;
 use array_row::same_bytes;
 use input_catalogue::Checked;
@@ -25,9 +25,9 @@ pub struct Both {
 }
 
 // Puts both words at the start of the row, one behind the other, and gives their end.
-fn join(first: &[u8], second: &[u8], row: &mut [u8]) -> usize
+fn concatenate(first: &[u8], second: &[u8], row: &mut [u8]) -> usize
     requires { ⌜ length (now first) + length (now second) ≤ length (now row) ⌝ }
-    ensures { λ r. ⌜ Joined (now (first .entry)) (now (second .entry)) (now (row .exit)) r ⌝ }
+    ensures { λ r. ⌜ Concatenated (now (first .entry)) (now (second .entry)) (now (row .exit)) r ⌝ }
 {
     let middle = append(row, 0, first);
     append(row, middle, second)
@@ -47,7 +47,7 @@ fn product_in(
     ensures { λ r. ⌜ Multiplied (now (conflicts .entry)) (now (first .entry)) (now (second .entry))
         (now (area .entry)) (now (area .exit)) r ⌝ }
 {
-    let end = join(first, second, row);
+    let end = concatenate(first, second, row);
     form(&row[..end], conflicts, area)
 }
 

@@ -87,9 +87,9 @@ chain-above c x h = rw (lt-leb x (commands c) h) (nil (records c))
     nil zero = refl
     nil (suc n) = refl
 
-below : (c : List ℕ) (a x y : ℕ) → commands c < a → (ltb x a && stands y (chain c x)) ≡ stands y (chain c x)
+chain-below : (c : List ℕ) (a x y : ℕ) → commands c < a → (ltb x a && stands y (chain c x)) ≡ stands y (chain c x)
 unfolding stands
-below c a x y h = go (decLt x a)
+chain-below c a x y h = go (decLt x a)
   where
     go : Dec (x < a) → (ltb x a && stands y (chain c x)) ≡ stands y (chain c x)
     go (yes l) = rw (lt-ltb x a l)
@@ -99,7 +99,8 @@ pub chained-end : (c : List ℕ) {a : ℕ} {rows : List (List ℕ)} → commands
 chained-end c {a} h m =
     record {
       shape = m .shape;
-      marks = λ i j hi hj. m .marks i j hi hj ∙ rw (below c a (i + 1) (j + 1) h, below c a (j + 1) (i + 1) h);
+      marks = λ i j hi hj.
+          m .marks i j hi hj ∙ rw (chain-below c a (i + 1) (j + 1) h, chain-below c a (j + 1) (i + 1) h);
     }
 
 bit-true : (t : Bool) → (bit t ≡ 0 → ⊥) → t ≡ true

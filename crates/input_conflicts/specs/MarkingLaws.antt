@@ -60,17 +60,17 @@ eqb-pred k b h = go (ℕ-discrete (k + 1) b)
 
 -- what cell (k, l) holds after a pair of commands is marked
 module _ (rows : List (List ℕ)) (s : Shape rows) (a b : ℕ) (ha : (1 ≤ a) × (a ≤ 24)) (hb : (1 ≤ b) × (b ≤ 24)) where
-  once : Shape (put rows (a - 1) (b - 1))
-  once = put-shape rows s (a - 1) (b - 1) (omega arith) (omega arith)
+  first-put-shape : Shape (put rows (a - 1) (b - 1))
+  first-put-shape = put-shape rows s (a - 1) (b - 1) (omega arith) (omega arith)
 
   pub pair-shape : Shape (pair rows a b)
-  pair-shape = put-shape (put rows (a - 1) (b - 1)) once (b - 1) (a - 1) (omega arith) (omega arith)
+  pair-shape = put-shape (put rows (a - 1) (b - 1)) first-put-shape (b - 1) (a - 1) (omega arith) (omega arith)
 
   pub pair-cell : (k l : ℕ) (q : Bool) → cell rows k l ≡ bit q
       → cell (pair rows a b) k l
       ≡ bit ((eqb (k + 1) b && eqb (l + 1) a) || ((eqb (k + 1) a && eqb (l + 1) b) || q))
   pair-cell k l q e =
-      put-cell (put rows (a - 1) (b - 1)) once (b - 1) (a - 1) (omega arith) (omega arith) k l
+      put-cell (put rows (a - 1) (b - 1)) first-put-shape (b - 1) (a - 1) (omega arith) (omega arith) k l
       ∙ rw (
         put-cell rows s (a - 1) (b - 1) (omega arith) (omega arith) k l,
         e,
@@ -133,13 +133,13 @@ spread false lb sl q = refl
 
 -- what cell (k, l) holds after a list of commands is noted in row a
 module _ (a : ℕ) (ha : (1 ≤ a) × (a ≤ 24)) where
-  noted : (b : ℕ) (rows : List (List ℕ)) → (1 ≤ b) × (b ≤ 24) → Shape rows → Shape (note rows a b)
-  noted b rows f s = put-shape rows s (a - 1) (b - 1) (omega arith) (omega arith)
+  note-shape : (b : ℕ) (rows : List (List ℕ)) → (1 ≤ b) × (b ≤ 24) → Shape rows → Shape (note rows a b)
+  note-shape b rows f s = put-shape rows s (a - 1) (b - 1) (omega arith) (omega arith)
 
   pub notes-shape : (bs : List ℕ) (rows : List (List ℕ)) → Fit bs → Shape rows → Shape (notes rows a bs)
   unfolding notes
   notes-shape [] rows f s = s
-  notes-shape (b ∷ bs) rows f s = notes-shape bs (note rows a b) (f .1) (noted b rows (f .0) s)
+  notes-shape (b ∷ bs) rows f s = notes-shape bs (note rows a b) (f .1) (note-shape b rows (f .0) s)
 
   pub notes-cell : (bs : List ℕ) (rows : List (List ℕ)) → Fit bs → Shape rows
       → (k l : ℕ) (q : Bool) → cell rows k l ≡ bit q
@@ -147,7 +147,7 @@ module _ (a : ℕ) (ha : (1 ≤ a) × (a ≤ 24)) where
   unfolding notes stands
   notes-cell [] rows f s k l q e = e ∙ simp and-false
   notes-cell (b ∷ bs) rows f s k l q e =
-      notes-cell bs (note rows a b) (f .1) (noted b rows (f .0) s) k l ((eqb (k + 1) a && eqb (l + 1) b) || q)
+      notes-cell bs (note rows a b) (f .1) (note-shape b rows (f .0) s) k l ((eqb (k + 1) a && eqb (l + 1) b) || q)
       (put-cell rows s (a - 1) (b - 1) (omega arith) (omega arith) k l
       ∙ rw (e, over-bit, eqb-pred k a (ha .0), eqb-pred l b (f .0 .0)))
       ∙ ap bit (spread (eqb (k + 1) a) (eqb (l + 1) b) (stands (l + 1) bs) q)

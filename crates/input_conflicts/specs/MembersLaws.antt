@@ -52,23 +52,23 @@ marked-more zero rows a j ms = refl
 marked-more (suc f) rows a j ms = refl
 
 -- the members from j on are still to be marked
-pub record Liking (a : ℕ) (line : List ℕ) (rows₀ rows : List (List ℕ)) (j : ℕ) : Type 0 where
+pub record MarkingMembers (a : ℕ) (line : List ℕ) (rows₀ rows : List (List ℕ)) (j : ℕ) : Type 0 where
   pub shape : Shape rows
   pub most : j ≤ 24
   pub marks : pairs rows a (members j (drop j line)) ≡ pairs rows₀ a (members 0 line)
 
 module _ (a : ℕ) (ha : (1 ≤ a) × (a ≤ 24)) (line : List ℕ) (wide : length line ≡ 24) where
-  pub liking-start : (rows : List (List ℕ)) → Shape rows → Liking a line rows rows 0
-  liking-start rows s = record { shape = s; most = omega arith; marks = refl }
+  pub marking-start : (rows : List (List ℕ)) → Shape rows → MarkingMembers a line rows rows 0
+  marking-start rows s = record { shape = s; most = omega arith; marks = refl }
 
   if-shape : (f : ℕ) (rows : List (List ℕ)) (b : ℕ) → (1 ≤ b) × (b ≤ 24) → Shape rows → Shape (markedIf f rows a b)
   if-shape zero rows b hb s = s
   if-shape (suc f) rows b hb s = pair-shape rows s a b ha hb
 
-  pub liking-again : {rows₀ rows rows' : List (List ℕ)} {j : ℕ} → Liking a line rows₀ rows j → j < 24
-      → rows' ≡ markedIf (getD line j 0) rows a (j + 1) → Liking a line rows₀ rows' (j + 1)
+  pub marking-again : {rows₀ rows rows' : List (List ℕ)} {j : ℕ} → MarkingMembers a line rows₀ rows j → j < 24
+      → rows' ≡ markedIf (getD line j 0) rows a (j + 1) → MarkingMembers a line rows₀ rows' (j + 1)
   unfolding members
-  liking-again {rows = rows} {j = j} k h e =
+  marking-again {rows = rows} {j = j} k h e =
       let d : drop j line ≡ getD line j 0 ∷ drop (j + 1) line
       = drop-cons line j 0 (omega arith) ∙ rw (add-one j) in
       let m : pairs rows a (member j (getD line j 0) (members (j + 1) (drop (j + 1) line)))
@@ -80,10 +80,10 @@ module _ (a : ℕ) (ha : (1 ≤ a) × (a ≤ 24)) (line : List ℕ) (wide : leng
         marks = marked-more (getD line j 0) rows a j (members (j + 1) (drop (j + 1) line)) ∙ m ∙ k .marks;
       })
 
-  pub liking-end : {rows₀ rows : List (List ℕ)} {j : ℕ} → Liking a line rows₀ rows j → 24 ≤ j
+  pub marking-end : {rows₀ rows : List (List ℕ)} {j : ℕ} → MarkingMembers a line rows₀ rows j → 24 ≤ j
       → rows ≡ pairs rows₀ a (members 0 line)
   unfolding members pairs
-  liking-end {rows = rows} {j = j} k h =
+  marking-end {rows = rows} {j = j} k h =
       let d : drop j line ≡ [] = drop-of-length-le line {i = j} (omega (arith, wide)) in
       let m : pairs rows a (members j (drop j line)) ≡ rows = rw d in
       sym m ∙ k .marks

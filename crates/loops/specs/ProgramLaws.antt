@@ -109,19 +109,19 @@ recount (given none) n = given none
 recount (given (some l)) n = given (some n)
 
 module _ (c v w area : List ℕ) (h : 49152 ≡ length area) where
-  first : {o : Option Line} → firstLine (loopsLines c v w area) ≡ o → firstLine (programLines c v w) ≡ o
-  first e = sym (loops-enough c v w area h) ∙ e
+  first-as-call : {o : Option Line} → firstLine (loopsLines c v w area) ≡ o → firstLine (programLines c v w) ≡ o
+  first-as-call e = sym (loops-enough c v w area h) ∙ e
 
-  verdict : {o : Option Line} {b : Bool} → firstLine (loopsLines c v w area) ≡ o
+  verdict-as-call : {o : Option Line} {b : Bool} → firstLine (loopsLines c v w area) ≡ o
       → joined? (alphabet c) (letters v) (letters w) ≡ b
       → loopsVerdict c v w ≡ orElse o (joined-step b (length (coreForm c v)))
-  verdict e j = ap₂ (λ o b. orElse o (joined-step b (length (coreForm c v)))) (first e) j
+  verdict-as-call e j = ap₂ (λ o b. orElse o (joined-step b (length (coreForm c v)))) (first-as-call e) j
 
-  counted : {a : Answer (Option ℕ)} {after : List ℕ} → Looped c v w area a after
+  recounted : {a : Answer (Option ℕ)} {after : List ℕ} → Looped c v w area a after
       → recount a (length (coreForm c v)) ≡ loopsVerdict c v w
-  counted (refuses e) = sym (verdict e refl)
-  counted (apart e j) = sym (verdict e j)
-  counted (joined e j k) = sym (verdict e j)
+  recounted (refuses e) = sym (verdict-as-call e refl)
+  recounted (apart e j) = sym (verdict-as-call e j)
+  recounted (joined e j k) = sym (verdict-as-call e j)
 
   core-passes : {a : Answer (Option ℕ)} {after : List ℕ} {l : ℕ} → Looped c v w area a after → a ≡ given (some l)
       → firstLine (coreLines c v) ≡ none
@@ -129,20 +129,20 @@ module _ (c v w area : List ℕ) (h : 49152 ≡ length area) where
   core-passes (apart e j) k = absurd (let z : _≡_ {A = ℕ} 0 1 = cc in omega arith)
   core-passes (joined e j i) k =
       none-left (coreLines c v) (planLines 2 planLimit (commands c) w)
-      (none-left (front c v w) (unsettledLine 1 c v ∷ unsettledLine 2 c w ∷ []) (first e))
+      (none-left (front c v w) (unsettledLine 1 c v ∷ unsettledLine 2 c w ∷ []) (first-as-call e))
 
   module _ {r : Loops} {after : List ℕ} (d : Looped c v w area (toldLoops r) after) where
     pub loops-joined : {l : ℕ} → r ≡ loops.Joined l → coreVerdict c v ≡ loopsVerdict c v w
     loops-joined e =
         ap (λ o. orElse o (some (length (coreForm c v)))) (core-passes d (ap toldLoops e))
         ∙ sym (ap (λ s. recount (toldLoops s) (length (coreForm c v))) e)
-        ∙ counted d
+        ∙ recounted d
 
     pub loops-apart : r ≡ loops.Apart → given none ≡ loopsVerdict c v w
-    loops-apart e = sym (ap (λ s. recount (toldLoops s) (length (coreForm c v))) e) ∙ counted d
+    loops-apart e = sym (ap (λ s. recount (toldLoops s) (length (coreForm c v))) e) ∙ recounted d
 
     pub loops-refused : {f : Refusal} → r ≡ loops.Refused f → refused (lineOf f) ≡ loopsVerdict c v w
-    loops-refused e = sym (ap (λ s. recount (toldLoops s) (length (coreForm c v))) e) ∙ counted d
+    loops-refused e = sym (ap (λ s. recount (toldLoops s) (length (coreForm c v))) e) ∙ recounted d
 
 -- What the framing tells
 

@@ -1,7 +1,7 @@
 -- `call_lead_in_check::product_in` meets its contract: the normal form of what the row begins with. Assumes nothing.
 use mathlib.Core.Path.{sym}
 use lib.Seq.{length-take-le}
-use Rattle.call_lead_in_check.specs.CheckingLaws.{joined-given, joined-formable, joined-written}
+use Rattle.call_lead_in_check.specs.CheckingLaws.{product-given, product-formable, product-written}
 use borrow.Author.Needs.{needs}
 use Rattle.call_lead_in_check.proofs.product_in.Statement.{statement}
 use Rattle.call_lead_in_check.proofs.product_in.Tie as tie
@@ -16,13 +16,13 @@ form-requires : tie.Need-form-requires
 form-requires c κs =
     let j = c .before .before .before .before in
     let (k, f, s) = j .before .before .before .before .before .before .pre in
-    (k, joined-formable (j .join .ensures) f)
+    (k, product-formable (j .concatenate .ensures) f)
 
 returns : tie.Need-returns
 returns c =
     let n = c .before .before in
-    let j = n .before .before .before .before .before .join .ensures in
-    λ k f. joined-written k j (n .form .ensures k (joined-given j f))
+    let j = n .before .before .before .before .before .concatenate .ensures in
+    λ k f. product-written k j (n .form .ensures k (product-given j f))
 
 pub product-in-spec : {M : Type 1} → statement M
 product-in-spec =

@@ -3,12 +3,12 @@ use Prim.Native.Nat.{_-_}
 use native.Mathlib.Omega.{arith}
 use mathlib.Core.List.{[]}
 use lib.ListN.{getD}
-use Rattle.input_conflicts.specs.MembersLaws.{Liking, liking-start, liking-again, liking-end}
+use Rattle.input_conflicts.specs.MembersLaws.{MarkingMembers, marking-start, marking-again, marking-end}
 use Rattle.input_conflicts.proofs.mark_like.Statement.{statement}
 use Rattle.input_conflicts.proofs.mark_like.Tie as tie
 
 abbrev Inv-loop : tie.InvT-loop
-Inv-loop own b a rows₀ j₀ rows j = Liking a (getD own (b - 1) []) rows₀ rows j
+Inv-loop own b a rows₀ j₀ rows j = MarkingMembers a (getD own (b - 1) []) rows₀ rows j
 
 abbrev μ-loop : tie.MeasureT-loop
 μ-loop own b a rows₀ j₀ rows j = 24 - j
@@ -17,7 +17,7 @@ loop-holds : tie.Need-loop-holds Inv-loop μ-loop
 loop-holds c =
     let s = c in
     let (ha, hb) = s .pre .1 .1 in
-    liking-start (s .args .a) ha (getD (s .args .own .now) (s .args .b - 1) [])
+    marking-start (s .args .a) ha (getD (s .args .own .now) (s .args .b - 1) [])
     (s .pre .0 .wide (s .args .b - 1) (omega arith)) (s .args .rows .now) (s .pre .1 .0)
 
 mark-if-requires : tie.Need-mark-if-requires Inv-loop μ-loop
@@ -31,14 +31,14 @@ loop-again c =
     let s = c .before .before .before .before .before in
     let g = c .before .before .before .before .loop in
     let (ha, hb) = s .pre .1 .1 in
-    liking-again (s .args .a) ha (getD (s .args .own .now) (s .args .b - 1) [])
+    marking-again (s .args .a) ha (getD (s .args .own .now) (s .args .b - 1) [])
     (s .pre .0 .wide (s .args .b - 1) (omega arith)) (g .inv) (omega arith) (c .mark-if .ensures)
 
 returns : tie.Need-returns Inv-loop μ-loop
 returns c =
     let s = c .before .before in
     let (ha, hb) = s .pre .1 .1 in
-    liking-end (s .args .a) ha (getD (s .args .own .now) (s .args .b - 1) [])
+    marking-end (s .args .a) ha (getD (s .args .own .now) (s .args .b - 1) [])
     (s .pre .0 .wide (s .args .b - 1) (omega arith)) (c .before .loop .inv) (omega arith)
 
 pub mark-like-spec : {M : Type 1} → statement M

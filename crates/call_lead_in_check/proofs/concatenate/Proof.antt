@@ -1,0 +1,14 @@
+-- `call_lead_in_check::concatenate` meets its contract: the second word is appended behind the first. Assumes nothing.
+use borrow.Author.Needs.{needs}
+use Rattle.call_lead_in_check.specs.CheckingLaws.{appended-concatenated}
+use Rattle.call_lead_in_check.proofs.concatenate.Statement.{statement}
+use Rattle.call_lead_in_check.proofs.concatenate.Tie as tie
+
+returns : tie.Need-returns
+returns c =
+    let b = c .before .before in
+    let a = b .before .before .before .before in
+    appended-concatenated (a .append .ensures) (b .append2 .ensures) (a .before .before .before .before .before .pre)
+
+pub concatenate-spec : {M : Type 1} → statement M
+concatenate-spec = tie.close (tie.spec (λ c κs. search needs) (λ c κs. search needs) (λ c. search needs) returns)
