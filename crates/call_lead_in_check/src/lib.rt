@@ -18,7 +18,7 @@ use spec::LeadIn;
 use spec::Lengths;
 
 // Whether the two normal forms are equal, and their lengths.
-pub struct Both {
+struct Both {
     pub same: bool,
     pub vu: usize,
     pub uw: usize,
@@ -66,7 +66,7 @@ fn product(first: &[u8], second: &[u8], conflicts: &[[u16; 24]; 24], area: &mut 
 }
 
 // The lead-in check: the normal form of v·u is written at the start of area0, that of u·w at the start of area1.
-pub fn check(
+fn check(
     v: &[u8],
     w: &[u8],
     u: &[u8],

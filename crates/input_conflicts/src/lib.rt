@@ -40,7 +40,7 @@ fn meet(a: usize, b: usize, rows: &mut [[u16; 24]; 24], own: &mut [[u16; 24]; 24
 
 // Follows the chain of command a, of at most R records, and marks each command that it meets; which they are is also
 // noted in row a of own. Tells whether it ends.
-pub fn walk(c: &[u8], a: usize, rows: &mut [[u16; 24]; 24], own: &mut [[u16; 24]; 24]) -> bool
+fn walk(c: &[u8], a: usize, rows: &mut [[u16; 24]; 24], own: &mut [[u16; 24]; 24]) -> bool
     requires { ⌜ Sound (now c) ⌝ ∗ ⌜ Shape (now rows) ⌝ ∗ ⌜ Shape (now own) ⌝
         ∗ ⌜ 1 ≤ a ⌝ ∗ ⌜ a ≤ commands (now c) ⌝ }
     ensures { λ r. ⌜ r ≡ ends (now (c .entry)) (records (now (c .entry))) (head (now (c .entry)) a) ⌝ }
@@ -72,7 +72,7 @@ fn mark_if(flag: u16, a: usize, b: usize, rows: &mut [[u16; 24]; 24])
 }
 
 // Marks command a as the chain in row b of own tells.
-pub fn mark_like(own: &[[u16; 24]; 24], b: usize, a: usize, rows: &mut [[u16; 24]; 24])
+fn mark_like(own: &[[u16; 24]; 24], b: usize, a: usize, rows: &mut [[u16; 24]; 24])
     requires { ⌜ Shape (now own) ⌝ ∗ ⌜ Shape (now rows) ⌝
         ∗ ⌜ (1 ≤ a) × (a ≤ 24) ⌝ ∗ ⌜ (1 ≤ b) × (b ≤ 24) ⌝ }
     ensures { λ _. ⌜ now (rows .exit) ≡ pairs (now (rows .entry)) a (members 0 (getD (now (own .entry)) (b - 1) [])) ⌝ }

@@ -1,5 +1,5 @@
 -- The digits that the kit's io::decimal writes are a number in decimal.
-use Prim.Native.Nat.{ℕ, zero, suc, _+_, _-_, _*_, _/_, _%_, _^_, _≤_, _<_}
+use Prim.Native.Nat.{ℕ, zero, suc, _+_, _-_, _/_, _%_, _^_, _≤_, _<_}
 use native.Mathlib.Omega.{arith}
 use native.Mathlib.Nat.{mod-lt, mod-eq-of-lt, pow-succ', pow-le-pow-right}
 use mathlib.Core.Path.{_≡_, subst}

@@ -1,22 +1,10 @@
+-- `input_checks::two_plans` meets its contract: the second plan's lines come after those of the first.
 use Rattle.input_checks.specs.Entry.{oneLines}
 use Rattle.input_checks.specs.EntryLaws.{second-entered}
 use borrow.Author.Needs.{needs}
 use Rattle.input_checks.proofs.two_plans.Statement.{statement}
 use Rattle.input_checks.proofs.two_plans.Tie as tie
-use Rattle.input_checks.proofs.two_plans.Reads as reads
-use Rattle.input_checks.proofs.two_plans.Lts as lts
-use Rattle.input_checks.proofs.next_plan.Reads as next-plan-reads
-use Rattle.input_checks.proofs.one_plan.Reads as one-plan-reads
 
--- src/lib.rt:43:15
-one-plan-requires : tie.Need-one-plan-requires
-one-plan-requires c κs = search needs
-
--- src/lib.rt:43:5
-next-plan-requires : tie.Need-next-plan-requires
-next-plan-requires c κs = search needs
-
--- src/lib.rt:39:1
 returns : tie.Need-returns
 returns c =
     let a = c .before in
@@ -26,4 +14,4 @@ returns c =
     (c .next-plan .ensures k (oneLines k (s .args .v .now)))
 
 pub two-plans-spec : {M : Type 1} → statement M
-two-plans-spec = tie.close (tie.spec one-plan-requires next-plan-requires returns)
+two-plans-spec = tie.close (tie.spec (λ c κs. search needs) (λ c κs. search needs) returns)
