@@ -79,6 +79,12 @@ pub fn short_row() -> [u8; 2048]
     [0; 2048]
 }
 
+pub fn sheet() -> [u8; 1024]
+    ensures { λ r. ⌜ 1024 ≡ length r ⌝ }
+{
+    [0; 1024]
+}
+
 pub fn middle_row() -> [u8; 8192]
     ensures { λ r. ⌜ 8192 ≡ length r ⌝ }
 {

@@ -78,7 +78,7 @@ module _ {c : List ℕ} {conflicts : List (List ℕ)} {x y labels : List ℕ} {a
   whole-room : at + suc less * (length p + length q) ≤ length row
   whole-room = subst (λ m. at + m * (length p + length q) ≤ length row) rounds-less (k .room)
 
-  pub part-first : (ring : List ℕ) → length ring ≡ 1024 → Ringable c conflicts x labels apex rounds ring row at
+  pub part-first : (ring : List ℕ) → 1024 ≡ length ring → Ringable c conflicts x labels apex rounds ring row at
   part-first ring e = record {
     core = k .two .first;
     apical = k .apical;
@@ -108,7 +108,7 @@ module _ {c : List ℕ} {conflicts : List (List ℕ)} {x y labels : List ℕ} {a
         first-cycled whole-room in
         omega (arith, w, f .end)
 
-    pub part-second : (other : List ℕ) → length other ≡ 1024
+    pub part-second : (other : List ℕ) → 1024 ≡ length other
         → Ringable c conflicts y labels apex rounds other row′ (one .cycled)
     part-second other e = record {
       core = k .two .second;

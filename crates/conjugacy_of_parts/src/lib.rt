@@ -2,10 +2,10 @@
 // up to the place at which the rings agree, and the letters that settling the second cycles, undone.
 
 use array_row::append_undone;
+use array_row::sheet;
 use array_row::undo_between;
 use conjugacy_ring::Ringed;
 use conjugacy_ring::ring_of;
-use conjugacy_ring::sheet;
 use conjugacy_rotation::Start;
 use conjugacy_rotation::rotation;
 ghost use Prim.Native.Nat.{ℕ};

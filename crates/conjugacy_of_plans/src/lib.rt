@@ -4,6 +4,7 @@
 
 use array_row::append;
 use array_row::append_undone;
+use array_row::sheet;
 use conjugacy_of_cores::join_cores;
 use conjugacy_of_parts::Outcome;
 use long_form::form;
@@ -11,7 +12,6 @@ ghost use Prim.Native.Nat.{ℕ, _≤_, _+_, _*_};
 ghost use mathlib.Core.List.{List};
 ghost use lib.ListN.{length};
 ghost use Rattle.conjugacy_of_plans.specs.Join.{Cores, crossRoom, LeadsWord, Crossable, Crossed, Plans, Told};
-use conjugacy_ring::sheet;
 use piling_form::form_of;
 // The lead-in as a word in the row: the letters g taken off the first plan, the lead-in from core x to core y, and the
 // letters h taken off the second plan, undone.

@@ -136,7 +136,7 @@ module _ {c : List ℕ} {conflicts : List (List ℕ)} {x labels : List ℕ} {ape
 
   -- a word that is the part
   module _ {word : List ℕ} (d : word ≡ whole) where
-    pub ringable-settle : {low high : List ℕ} → length low ≡ 1024 → length high ≡ 1024
+    pub ringable-settle : {low high : List ℕ} → 1024 ≡ length low → 1024 ≡ length high
         → Settleable c word rounds conflicts low high out at
     ringable-settle {low} {high} e f =
         subst (λ (z : List ℕ). Settleable c z rounds conflicts low high out at) (sym d) (record {

@@ -1,13 +1,12 @@
 // The ring of one part of a core: the part is settled on its apex, and the settled word put in normal form.
 
+use array_row::sheet;
 use conjugacy_parts::part;
 use conjugacy_settling::Settled;
 use conjugacy_settling::settle;
 use long_form::form;
 ghost use Prim.Native.Nat.{ℕ};
-ghost use mathlib.Core.Path.{_≡_};
 ghost use mathlib.Core.List.{List};
-ghost use lib.ListN.{length};
 ghost use Rattle.conjugacy_ring.specs.Ring.{Ringable, Rings};
 
 // The length of a ring, and the end of the letters that settling cycled.
@@ -20,13 +19,6 @@ pub struct Ends {
 pub enum Ringed {
     Of(Ends),
     Unsettled,
-}
-
-// A sheet for a word of 1,024 letters.
-pub fn sheet() -> [u8; 1024]
-    ensures { λ r. ⌜ length r ≡ 1024 ⌝ }
-{
-    [0; 1024]
 }
 
 // The ring of the core's part with this apex, and from a place in cycled on the letters that settling cycles.
