@@ -62,78 +62,6 @@ pub fn cross(
     Outcome::Joined(form(&row[..end], conflicts, area))
 }
 
-// Across two cores, with a row of 2,048 bytes.
-fn span_short(
-    x: &[u8],
-    g: &[u8],
-    y: &[u8],
-    h: &[u8],
-    commands: usize,
-    conflicts: &[[u16; 24]; 24],
-    area: &mut [u8],
-) -> Outcome
-    requires { ⌜ Crossable (now conflicts) (now x) (now g) (now y) (now h) commands 2048 (now area) ⌝ }
-    ensures { λ r. ⌜ Crossed (now (conflicts .entry)) (now (x .entry)) (now (g .entry)) (now (y .entry))
-        (now (h .entry)) commands (now (area .entry)) r (now (area .exit)) ⌝ }
-{
-    let mut row = array_row::short_row();
-    cross(x, g, y, h, commands, conflicts, &mut row, area)
-}
-
-// Across two cores, with a row of 8,192 bytes.
-fn span_middle(
-    x: &[u8],
-    g: &[u8],
-    y: &[u8],
-    h: &[u8],
-    commands: usize,
-    conflicts: &[[u16; 24]; 24],
-    area: &mut [u8],
-) -> Outcome
-    requires { ⌜ Crossable (now conflicts) (now x) (now g) (now y) (now h) commands 8192 (now area) ⌝ }
-    ensures { λ r. ⌜ Crossed (now (conflicts .entry)) (now (x .entry)) (now (g .entry)) (now (y .entry))
-        (now (h .entry)) commands (now (area .entry)) r (now (area .exit)) ⌝ }
-{
-    let mut row = array_row::middle_row();
-    cross(x, g, y, h, commands, conflicts, &mut row, area)
-}
-
-// Across two cores, with a row of 24,576 bytes.
-fn span_wide(
-    x: &[u8],
-    g: &[u8],
-    y: &[u8],
-    h: &[u8],
-    commands: usize,
-    conflicts: &[[u16; 24]; 24],
-    area: &mut [u8],
-) -> Outcome
-    requires { ⌜ Crossable (now conflicts) (now x) (now g) (now y) (now h) commands 24576 (now area) ⌝ }
-    ensures { λ r. ⌜ Crossed (now (conflicts .entry)) (now (x .entry)) (now (g .entry)) (now (y .entry))
-        (now (h .entry)) commands (now (area .entry)) r (now (area .exit)) ⌝ }
-{
-    let mut row = array_row::wide_row();
-    cross(x, g, y, h, commands, conflicts, &mut row, area)
-}
-
-// Across two cores, with a row of 50,176 bytes.
-fn span_long(
-    x: &[u8],
-    g: &[u8],
-    y: &[u8],
-    h: &[u8],
-    commands: usize,
-    conflicts: &[[u16; 24]; 24],
-    area: &mut [u8],
-) -> Outcome
-    requires { ⌜ Crossable (now conflicts) (now x) (now g) (now y) (now h) commands 50176 (now area) ⌝ }
-    ensures { λ r. ⌜ Crossed (now (conflicts .entry)) (now (x .entry)) (now (g .entry)) (now (y .entry))
-        (now (h .entry)) commands (now (area .entry)) r (now (area .exit)) ⌝ }
-{
-    let mut row = array_row::blank_row();
-    cross(x, g, y, h, commands, conflicts, &mut row, area)
-}
-
 // Across two cores, with the shortest row that suffices, so that short cores clear little.
 pub fn span(
     x: &[u8],
@@ -150,15 +78,19 @@ pub fn span(
 {
     let need = commands * (2 * g.len() + x.len() + (2 * h.len() + y.len()));
     if need <= 2048 {
-        return span_short(x, g, y, h, commands, conflicts, area);
+        let mut row = array_row::short_row();
+        return cross(x, g, y, h, commands, conflicts, &mut row, area);
     }
     if need <= 8192 {
-        return span_middle(x, g, y, h, commands, conflicts, area);
+        let mut row = array_row::middle_row();
+        return cross(x, g, y, h, commands, conflicts, &mut row, area);
     }
     if need <= 24576 {
-        return span_wide(x, g, y, h, commands, conflicts, area);
+        let mut row = array_row::wide_row();
+        return cross(x, g, y, h, commands, conflicts, &mut row, area);
     }
-    span_long(x, g, y, h, commands, conflicts, area)
+    let mut row = array_row::blank_row();
+    cross(x, g, y, h, commands, conflicts, &mut row, area)
 }
 
 // The verdict on two plans that have passed their checks, with so many commands: joined, by a lead-in at the start of
