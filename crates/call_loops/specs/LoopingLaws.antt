@@ -14,7 +14,7 @@ use Rattle.input_catalogue.specs.declared.Checked.{Checked}
 use Rattle.input_catalogue.specs.declared.Checked.the-variants.{Refused, Passed}
 use Rattle.conjugacy_of_parts.specs.declared.Outcome.{Outcome}
 use Rattle.conjugacy_of_plans.specs.Join as Join
-use Rattle.conjugacy_of_plans.specs.Join.{Plans, Told}
+use Rattle.conjugacy_of_plans.specs.Join.{Plans, PlansOutcome}
 use Rattle.spec_laws.specs.UnsettledLaws.{never-unsettled}
 use Rattle.input_checks.specs.Entry.{TwoPlans, twoLines, SameRefusal}
 use Rattle.input_checks.specs.EntryLaws.{entered-none, entered-some, entered-commands}
@@ -65,7 +65,8 @@ module _ {c v w : List ℕ} {rows : List (List ℕ)} {r : Checked} (d : TwoPlans
           never-unsettled 2 c w (p .1 .few) (p .1 .passing),
         )
 
-    pub loops-told : {o : Outcome} {after : List ℕ} → n * (length v + length w) ≤ length area → Told c v w area o after
+    pub loops-told : {o : Outcome} {after : List ℕ} → n * (length v + length w) ≤ length area
+        → PlansOutcome c v w area o after
         → Looped c v w area (toldOutcome o) after
     loops-told h (Join.joined t l) = joined (loops-none h) t l
     loops-told h (Join.apart t) = apart (loops-none h) t

@@ -50,5 +50,5 @@ pub fn loops(catalogue: &[u8], v: &[u8], w: &[u8], area: &mut [u8]) -> Loops
     if area.len() < commands * (v.len() + w.len()) {
         return Loops::Refused(input_checks::small_area(0));
     }
-    verdict(conjugacy_of_plans::join(v, w, commands, &conflicts, area))
+    verdict(conjugacy_of_plans::join_plans(v, w, commands, &conflicts, area))
 }

@@ -15,9 +15,9 @@ use Rattle.theory_conjugacy.specs.LeadIn.{parts-lead}
 use Rattle.conjugacy_parts.specs.Flags.{Flags, LabelsOf}
 use Rattle.conjugacy_of_parts.specs.declared.Outcome.{Outcome}
 use Rattle.conjugacy_of_parts.specs.declared.Outcome.the-variants.{Joined, Apart, Unsettled}
-use Rattle.conjugacy_of_parts.specs.Lead.{Leads}
-use Rattle.conjugacy_of_cores.specs.Pair.{Leadable, Coreable, CoresLead}
-use Rattle.conjugacy_of_cores.specs.PassageLaws.{parts-passage}
+use Rattle.conjugacy_of_parts.specs.Parts.{PartsOutcome}
+use Rattle.conjugacy_of_cores.specs.Pair.{Flagged, Coreable, CoresOutcome}
+use Rattle.conjugacy_of_cores.specs.ConjugatorLaws.{parts-conjugator}
 
 -- what the comparison of the flags tells
 pub tells-same : {P : Type 0} {r : Bool} → (r ≡ true) ↔ P → not r ≡ false → P
@@ -38,11 +38,11 @@ module _ {c : List ℕ} {conflicts : List (List ℕ)} {x y : List ℕ} {rounds :
       go false f = refl
 
   module _ (same : commands (alphabet c) x ≡ commands (alphabet c) y) where
-    pub cores-leadable : {fs names : List ℕ} → Flags (commands (alphabet c) x) fs
+    pub cores-flagged : {fs names : List ℕ} → Flags (commands (alphabet c) x) fs
         → LabelsOf (labels (alphabet c) (commands (alphabet c) x)) names
-        → Leadable c conflicts x y fs names rounds
+        → Flagged c conflicts x y fs names rounds
     unfolding label
-    cores-leadable {fs} {names} f l = record {
+    cores-flagged {fs} {names} f l = record {
       two = record {
         first = record { cyclic = h .first; labelled = l };
         second = record {
@@ -59,13 +59,13 @@ module _ {c : List ℕ} {conflicts : List (List ℕ)} {x y : List ℕ} {rounds :
     unfolding cores-joined?
     decided = rw (← same, alike-refl (commands (alphabet c) x))
 
-    pub cores-lead : (after : List ℕ) (o : Outcome) → Leads c x y (apexes (alphabet c) x) row at after o
-        → CoresLead c x y row at after o
-    cores-lead after (Joined end) d = record {
+    pub cores-outcome : (after : List ℕ) (o : Outcome) → PartsOutcome c x y (apexes (alphabet c) x) row at after o
+        → CoresOutcome c x y row at after o
+    cores-outcome after (Joined end) d = record {
       word = parts-lead (alphabet c) (apexes (alphabet c) x) x y;
-      passage = parts-passage (h .first) (h .second) (decided ∙ d .joined);
+      conjugator = parts-conjugator (h .first) (h .second) (decided ∙ d .joined);
       written = d .written;
       ends = d .ends;
     }
-    cores-lead after Apart d = decided ∙ d
-    cores-lead after (Unsettled p) d = d
+    cores-outcome after Apart d = decided ∙ d
+    cores-outcome after (Unsettled p) d = d

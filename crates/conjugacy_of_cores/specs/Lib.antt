@@ -1,6 +1,6 @@
 pub mod ApexLaws
 pub mod CoreLaws
 pub mod Pair
-pub mod PassageLaws
+pub mod ConjugatorLaws
 pub mod PlaceLaws
 pub mod SofarLaws

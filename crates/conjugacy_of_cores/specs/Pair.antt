@@ -1,5 +1,5 @@
--- What the lead-ins of all parts of two cores ask and give. They are written one after the other behind what stands
--- in a row.
+-- What joining two cores, all parts or one, asks and gives. The lead-ins of the parts are written one after the other
+-- behind what stands in a row.
 use Prim.Native.Nat.{ℕ, zero, suc, _+_, _*_, _≤_}
 use mathlib.Core.Path.{_≡_}
 use mathlib.Core.Bool.{false, _&&_}
@@ -18,57 +18,61 @@ use Rattle.conjugacy_parts.specs.Flags.{Flags}
 use Rattle.conjugacy_ring.specs.Ring.{Cyclic}
 use Rattle.conjugacy_of_parts.specs.declared.Outcome.{Outcome}
 use Rattle.conjugacy_of_parts.specs.declared.Outcome.the-variants.{Joined, Apart, Unsettled}
-use Rattle.conjugacy_of_parts.specs.Lead.{Two, Led}
+use Rattle.conjugacy_of_parts.specs.Parts.{Two, PartsJoined}
 
 -- command k + 1, if it is flagged and its own label
 unfoldable pub apexAt : List ℕ → List ℕ → ℕ → List ℕ
 apexAt fs labels k = keepIf (eqb (getD fs k 0) 1 && eqb (getD labels k 0) (k + 1)) (k + 1) []
 
--- several parts: the flags tell of the commands that occur, and the rounds are as many as commands
-pub record Leadable (c : List ℕ) (conflicts : List (List ℕ)) (x y fs labels : List ℕ) (rounds : ℕ)
+-- two cores in which the same commands occur: the flags tell which, and the rounds are as many as commands
+pub record Flagged (c : List ℕ) (conflicts : List (List ℕ)) (core1 core2 fs labels : List ℕ) (rounds : ℕ)
     : Type 0 where
-  pub two : Two c conflicts x y labels
-  pub flags : Flags (commands (alphabet c) x) fs
+  pub two : Two c conflicts core1 core2 labels
+  pub flags : Flags (commands (alphabet c) core1) fs
   pub enough : rounds ≡ Catalogue.commands c
 
--- the letters of x in the parts with these apexes
+-- the letters of a core in the parts with these apexes
 abbrev pub partsOf : List ℕ → List ℕ → List ℕ → List ℕ
-partsOf c ms x = shares (alphabet c) (label (alphabet c) x) ms x
+partsOf c ms core = shares (alphabet c) (label (alphabet c) core) ms core
 
 -- one command: the row has room behind place `at` for its part, if it is an apex
-pub record Placeable (c : List ℕ) (conflicts : List (List ℕ)) (x y fs labels : List ℕ) (k rounds : ℕ)
+pub record Placeable (c : List ℕ) (conflicts : List (List ℕ)) (core1 core2 fs labels : List ℕ) (k rounds : ℕ)
     (row : List ℕ) (at : ℕ) : Type 0 where
-  pub leadable : Leadable c conflicts x y fs labels rounds
-  pub room : at + rounds * (length (partsOf c (apexAt fs labels k) x) + length (partsOf c (apexAt fs labels k) y))
+  pub flagged : Flagged c conflicts core1 core2 fs labels rounds
+  pub room :
+      at
+      + rounds
+      * (length (partsOf c (apexAt fs labels k) core1) + length (partsOf c (apexAt fs labels k) core2))
       ≤ length row
 
 -- two whole cores: the rounds are as many as commands, and the row has room behind place `at` for the lead-ins of all
 -- parts
-pub record Coreable (c : List ℕ) (conflicts : List (List ℕ)) (x y : List ℕ) (rounds : ℕ) (row : List ℕ)
+pub record Coreable (c : List ℕ) (conflicts : List (List ℕ)) (core1 core2 : List ℕ) (rounds : ℕ) (row : List ℕ)
     (at : ℕ) : Type 0 where
-  pub first : Cyclic c conflicts x
-  pub second : Cyclic c conflicts y
+  pub first : Cyclic c conflicts core1
+  pub second : Cyclic c conflicts core2
   pub enough : rounds ≡ Catalogue.commands c
-  pub room : at + rounds * (length x + length y) ≤ length row
+  pub room : at + rounds * (length core1 + length core2) ≤ length row
 
--- u leads from core x to core y, in commands of the catalogue. Its letters and those of x are at most 2N times as many
--- as those of x.
-pub record Passage (c x y u : List ℕ) : Type 0 where
-  pub leads : _≈_ (alphabet c) (conj (alphabet c) u x) y
+-- u conjugates one core to the other, in commands of the catalogue. Its letters and those of the first core are at most
+-- 2N times as many as those of the first core.
+pub record Conjugator (c core1 core2 u : List ℕ) : Type 0 where
+  pub conjugates : _≈_ (alphabet c) (conj (alphabet c) u core1) core2
   pub letters : Commands (Catalogue.commands c) u
-  pub short : length u + length x ≤ (2 * Catalogue.commands c) * length x
+  pub short : length u + length core1 ≤ (2 * Catalogue.commands c) * length core1
 
--- behind the first `at` bytes now stands a passage from one core to the other, up to `end`
-pub record CoresLed (c x y before : List ℕ) (at : ℕ) (after : List ℕ) (end : ℕ) : Type 0 where
+-- behind the first `at` bytes now stands a conjugator from one core to the other, up to `end`
+pub record CoresJoined (c core1 core2 before : List ℕ) (at : ℕ) (after : List ℕ) (end : ℕ) : Type 0 where
   pub word : List ℕ
-  pub passage : Passage c x y word
+  pub conjugator : Conjugator c core1 core2 word
   pub written : take end after ≡ take at before ++ word
   pub ends : end ≡ at + length word
 
-abbrev pub CoresLead : List ℕ → List ℕ → List ℕ → List ℕ → ℕ → List ℕ → Outcome → Type 0
-CoresLead c x y before at after (Joined end) = CoresLed c x y before at after end
-CoresLead c x y before at after Apart = cores-joined? (alphabet c) x y ≡ false
-CoresLead c x y before at after (Unsettled p) = ⊥
+-- what an outcome says of two cores: a conjugator is written, or there is none; every part is settled
+abbrev pub CoresOutcome : List ℕ → List ℕ → List ℕ → List ℕ → ℕ → List ℕ → Outcome → Type 0
+CoresOutcome c x y before at after (Joined end) = CoresJoined c x y before at after end
+CoresOutcome c x y before at after Apart = cores-joined? (alphabet c) x y ≡ false
+CoresOutcome c x y before at after (Unsettled p) = ⊥
 
 -- the apexes among n commands from k + 1 on
 unfoldable pub apexesFrom : List ℕ → List ℕ → ℕ → ℕ → List ℕ
@@ -76,9 +80,9 @@ apexesFrom fs labels zero k = []
 apexesFrom fs labels (suc n) k = apexAt fs labels k ++ apexesFrom fs labels n (k + 1)
 
 -- the apexes up to command k are joined, and their lead-ins stand in the row
-pub record Sofar (c x y fs labels before : List ℕ) (at : ℕ) (after : List ℕ) (end k : ℕ) : Type 0 where
+pub record Sofar (c core1 core2 fs labels before : List ℕ) (at : ℕ) (after : List ℕ) (end k : ℕ) : Type 0 where
   pub done : List ℕ
   pub left : ℕ
   pub count : left + k ≡ 24
-  pub all : done ++ apexesFrom fs labels left k ≡ apexes (alphabet c) x
-  pub led : Led c x y done before at after end
+  pub all : done ++ apexesFrom fs labels left k ≡ apexes (alphabet c) core1
+  pub parts : PartsJoined c core1 core2 done before at after end

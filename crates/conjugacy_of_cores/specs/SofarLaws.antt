@@ -22,23 +22,24 @@ use Rattle.theory_conjugacy.specs.LeadInLaws.{apical-part, parts-length}
 use Rattle.theory_conjugacy.specs.JoinLaws.{parts-lead-length}
 use Rattle.conjugacy_of_parts.specs.declared.Outcome.{Outcome}
 use Rattle.conjugacy_of_parts.specs.declared.Outcome.the-variants.{Joined, Apart, Unsettled}
-use Rattle.conjugacy_of_parts.specs.Lead.{Led, Leads, Stops}
-use Rattle.conjugacy_of_cores.specs.Pair.{apexAt, partsOf, apexesFrom, Leadable, Placeable, Sofar}
+use Rattle.conjugacy_of_parts.specs.Parts.{PartsJoined, PartsOutcome, Stops}
+use Rattle.conjugacy_of_cores.specs.Pair.{apexAt, partsOf, apexesFrom, Flagged, Placeable, Sofar}
 use Rattle.conjugacy_of_cores.specs.ApexLaws.{shares-append, joined-append, lead-append, apexes-from}
 
 -- no lead-in yet
-pub led-nothing : (c x y row : List ℕ) (at : ℕ) → Led c x y [] row at row at
+pub joined-none : (c x y row : List ℕ) (at : ℕ) → PartsJoined c x y [] row at row at
 unfolding parts-joined? parts-lead
-led-nothing c x y row at = record {
+joined-none c x y row at = record {
   joined = refl;
   written = sym (append-nil (take at row));
   ends = omega arith;
 }
 
 -- one after the other
-led-append : {c x y before mid after : List ℕ} {at end last : ℕ} (ms ns : List ℕ) → Led c x y ms before at mid end
-    → Led c x y ns mid end after last → Led c x y (ms ++ ns) before at after last
-led-append {c} {x} {y} {before} {mid} {after} {at} {end} {last} ms ns a b =
+parts-joined-append : {c x y before mid after : List ℕ} {at end last : ℕ} (ms ns : List ℕ)
+    → PartsJoined c x y ms before at mid end
+    → PartsJoined c x y ns mid end after last → PartsJoined c x y (ms ++ ns) before at after last
+parts-joined-append {c} {x} {y} {before} {mid} {after} {at} {end} {last} ms ns a b =
     let u = parts-lead (alphabet c) ms x y in
     let v = parts-lead (alphabet c) ns x y in
     let e = lead-append (alphabet c) ms ns x y in
@@ -91,14 +92,14 @@ doubled n i l m e h =
     omega (arith, ap (λ j. j * l) t, add-mul n n l, mul-add n l m, ap (λ j. n * j) e)
 
 module _ {c : List ℕ} {conflicts : List (List ℕ)} {x y fs labels : List ℕ} {rounds : ℕ}
-    (h : Leadable c conflicts x y fs labels rounds) where
+    (h : Flagged c conflicts x y fs labels rounds) where
   pub sofar-start : (row : List ℕ) (at : ℕ) → Sofar c x y fs labels row at row at 0
   sofar-start row at = record {
     done = [];
     left = 24;
     count = refl;
     all = apexes-from c x (h .flags) (h .two .first .labelled);
-    led = led-nothing c x y row at;
+    parts = joined-none c x y row at;
   }
 
   range : (j : ℕ) → Occurs (alphabet c) j x → (1 ≤ j) × (j ≤ rounds)
@@ -108,10 +109,10 @@ module _ {c : List ℕ} {conflicts : List (List ℕ)} {x y fs labels : List ℕ}
       (h .two .first .cyclic .letters)))
 
   -- the lead-ins of some of the apexes are short
-  led-short : {before after : List ℕ} {at end : ℕ} (ms : List ℕ) → Within ms (apexes (alphabet c) x)
-      → Led c x y ms before at after end
+  lead-ins-short : {before after : List ℕ} {at end : ℕ} (ms : List ℕ) → Within ms (apexes (alphabet c) x)
+      → PartsJoined c x y ms before at after end
       → length (parts-lead (alphabet c) ms x y) ≤ rounds * (length (partsOf c ms x) + length (partsOf c ms y))
-  led-short ms w l =
+  lead-ins-short ms w l =
       let e = parts-lead-length (alphabet c) x y (h .two .same) rounds range ms w (l .joined) in
       doubled rounds (length (parts-lead (alphabet c) ms x y)) (length (partsOf c ms x)) (length (partsOf c ms y))
       (parts-of-joined c x y (h .two .same) ms w (l .joined)) (omega arith)
@@ -157,10 +158,11 @@ module _ {c : List ℕ} {conflicts : List (List ℕ)} {x y fs labels : List ℕ}
         let b = length (partsOf c a x) + length (partsOf c a y) in
         let t : d + b ≤ length x + length y = omega arith in
         let q = more-room rounds (length (parts-lead (alphabet c) (s .done) x y)) d b at (length before)
-        (led-short (s .done) within (s .led)) (omega (arith, mul-le-mul-left rounds t)) in
-        omega (arith, q, s .led .ends)
+        (lead-ins-short (s .done) within (s .parts)) (omega (arith, mul-le-mul-left rounds t)) in
+        omega (arith, q, s .parts .ends)
 
-    pub sofar-again : {after′ : List ℕ} {end′ : ℕ} → k < 24 → Led c x y (apexAt fs labels k) after end after′ end′
+    pub sofar-again : {after′ : List ℕ} {end′ : ℕ} → k < 24
+        → PartsJoined c x y (apexAt fs labels k) after end after′ end′
         → Sofar c x y fs labels before at after′ end′ (k + 1)
     sofar-again l d =
         let (n, f, g) = rest-next l in
@@ -170,7 +172,7 @@ module _ {c : List ℕ} {conflicts : List (List ℕ)} {x y fs labels : List ℕ}
           count = f;
           all = append-assoc (s .done) (apexAt fs labels k) (apexesFrom fs labels n (k + 1))
               ∙ ap (λ (z : List ℕ). s .done ++ z) (sym g) ∙ s .all;
-          led = led-append (s .done) (apexAt fs labels k) (s .led) d;
+          parts = parts-joined-append (s .done) (apexAt fs labels k) (s .parts) d;
         }
 
     apart-all : k < 24 → parts-joined? (alphabet c) (apexAt fs labels k) x y ≡ false
@@ -181,22 +183,23 @@ module _ {c : List ℕ} {conflicts : List (List ℕ)} {x y fs labels : List ℕ}
         rw (
           ← s .all,
           joined-append (alphabet c) (s .done) rest x y,
-          s .led .joined,
+          s .parts .joined,
           g,
           joined-append (alphabet c) (apexAt fs labels k) m x y,
           e,
         )
 
     pub sofar-stop : (after′ : List ℕ) (o : Outcome) → k < 24 → Stops o
-        → Leads c x y (apexAt fs labels k) after end after′ o
-        → Leads c x y (apexes (alphabet c) x) before at after′ o
+        → PartsOutcome c x y (apexAt fs labels k) after end after′ o
+        → PartsOutcome c x y (apexes (alphabet c) x) before at after′ o
     sofar-stop after′ (Joined e) l n d = absurd n
     sofar-stop after′ Apart l n d = apart-all l d
     sofar-stop after′ (Unsettled p) l n d = d
 
-    pub sofar-end : (k < 24 → ⊥) → Led c x y (apexes (alphabet c) x) before at after end
+    pub sofar-end : (k < 24 → ⊥) → PartsJoined c x y (apexes (alphabet c) x) before at after end
     unfolding apexesFrom
-    sofar-end n = subst (λ (ms : List ℕ). Led c x y ms before at after end) (go (s .left) (s .count) (s .all)) (s .led)
+    sofar-end n = subst (λ (ms : List ℕ). PartsJoined c x y ms before at after end)
+        (go (s .left) (s .count) (s .all)) (s .parts)
       where
         go : (m : ℕ) → m + k ≡ 24 → s .done ++ apexesFrom fs labels m k ≡ apexes (alphabet c) x
             → s .done ≡ apexes (alphabet c) x
@@ -206,10 +209,10 @@ module _ {c : List ℕ} {conflicts : List (List ℕ)} {x y fs labels : List ℕ}
     -- so the next command can be tried
     pub sofar-placeable : length after ≡ length before → k < 24
         → at + rounds * (length x + length y) ≤ length before → Placeable c conflicts x y fs labels k rounds after end
-    sofar-placeable e l r = record { leadable = h; room = sofar-room l r e }
+    sofar-placeable e l r = record { flagged = h; room = sofar-room l r e }
 
 -- what one step tells
 
-pub leads-joined : (c x y ms before : List ℕ) (at : ℕ) (after : List ℕ) {o : Outcome} {end : ℕ}
-    → Leads c x y ms before at after o → o ≡ Joined end → Led c x y ms before at after end
-leads-joined c x y ms before at after d e = subst (Leads c x y ms before at after) e d
+pub parts-joined : (c x y ms before : List ℕ) (at : ℕ) (after : List ℕ) {o : Outcome} {end : ℕ}
+    → PartsOutcome c x y ms before at after o → o ≡ Joined end → PartsJoined c x y ms before at after end
+parts-joined c x y ms before at after d e = subst (PartsOutcome c x y ms before at after) e d

@@ -11,14 +11,14 @@ ghost use mathlib.Core.List.{List};
 ghost use lib.ListN.{length};
 ghost use Rattle.spec.specs.Letters.{alphabet};
 ghost use Rattle.theory_conjugacy.specs.Part.{apexes};
-ghost use Rattle.conjugacy_of_parts.specs.Lead.{Leads};
-ghost use Rattle.conjugacy_of_cores.specs.Pair.{apexAt, Leadable, Placeable, Coreable, CoresLead};
+ghost use Rattle.conjugacy_of_parts.specs.Parts.{PartsOutcome};
+ghost use Rattle.conjugacy_of_cores.specs.Pair.{apexAt, Flagged, Placeable, Coreable, CoresOutcome};
 
 // The lead-in of the part of command k + 1, if it occurs and is the apex of its part, behind the first bytes of the
 // row.
 fn join_at(
-    x: &[u8],
-    y: &[u8],
+    core1: &[u8],
+    core2: &[u8],
     flags: &[u16; 24],
     labels: &[u8; 24],
     k: usize,
@@ -27,13 +27,13 @@ fn join_at(
     row: &mut [u8],
     at: usize,
 ) -> Outcome
-    requires { ⌜ (k < 24) × ((c : List ℕ) × Placeable c (now conflicts) (now x) (now y) (now flags) (now labels) k
-        rounds (now row) at) ⌝ }
+    requires { ⌜ (k < 24) × ((c : List ℕ) × Placeable c (now conflicts) (now core1) (now core2) (now flags)
+        (now labels) k rounds (now row) at) ⌝ }
     ensures { λ r. ⌜ ((c : List ℕ)
-        → Placeable c (now (conflicts .entry)) (now (x .entry)) (now (y .entry)) (now (flags .entry))
+        → Placeable c (now (conflicts .entry)) (now (core1 .entry)) (now (core2 .entry)) (now (flags .entry))
         (now (labels .entry)) k rounds (now (row .entry)) at
-        → Leads c (now (x .entry)) (now (y .entry)) (apexAt (now (flags .entry)) (now (labels .entry)) k)
-        (now (row .entry)) at (now (row .exit)) r) ⌝ }
+        → PartsOutcome c (now (core1 .entry)) (now (core2 .entry))
+        (apexAt (now (flags .entry)) (now (labels .entry)) k) (now (row .entry)) at (now (row .exit)) r) ⌝ }
 {
     if flags[k] != 1 {
         return Outcome::Joined(at);
@@ -41,13 +41,13 @@ fn join_at(
     if labels[k] != (k + 1) as u8 {
         return Outcome::Joined(at);
     }
-    join_part(x, y, labels, labels[k], rounds, conflicts, row, at)
+    join_part(core1, core2, labels, labels[k], rounds, conflicts, row, at)
 }
 
 // The lead-ins of all parts, one after the other.
 fn join_parts(
-    x: &[u8],
-    y: &[u8],
+    core1: &[u8],
+    core2: &[u8],
     flags: &[u16; 24],
     labels: &[u8; 24],
     rounds: usize,
@@ -56,18 +56,18 @@ fn join_parts(
     at: usize,
 ) -> Outcome
     requires { ⌜ ((c : List ℕ)
-        × Leadable c (now conflicts) (now x) (now y) (now flags) (now labels) rounds
-        × (at + rounds * (length (now x) + length (now y)) ≤ length (now row))) ⌝ }
+        × Flagged c (now conflicts) (now core1) (now core2) (now flags) (now labels) rounds
+        × (at + rounds * (length (now core1) + length (now core2)) ≤ length (now row))) ⌝ }
     ensures { λ r. ⌜ ((c : List ℕ)
-        → Leadable c (now (conflicts .entry)) (now (x .entry)) (now (y .entry)) (now (flags .entry))
+        → Flagged c (now (conflicts .entry)) (now (core1 .entry)) (now (core2 .entry)) (now (flags .entry))
         (now (labels .entry)) rounds
-        → Leads c (now (x .entry)) (now (y .entry)) (apexes (alphabet c) (now (x .entry))) (now (row .entry)) at
-        (now (row .exit)) r) ⌝ }
+        → PartsOutcome c (now (core1 .entry)) (now (core2 .entry)) (apexes (alphabet c) (now (core1 .entry)))
+        (now (row .entry)) at (now (row .exit)) r) ⌝ }
 {
     let mut end = at;
     let mut k = 0;
     while k < 24 {
-        let way = join_at(x, y, flags, labels, k, rounds, conflicts, row, end);
+        let way = join_at(core1, core2, flags, labels, k, rounds, conflicts, row, end);
         let Outcome::Joined(next) = way else {
             return way;
         };
@@ -80,26 +80,26 @@ fn join_parts(
 // The lead-in from one core to another, behind the first bytes of the row: none where they are the same. Cores in which
 // other commands occur are apart.
 pub fn join_cores(
-    x: &[u8],
-    y: &[u8],
+    core1: &[u8],
+    core2: &[u8],
     rounds: usize,
     conflicts: &[[u16; 24]; 24],
     row: &mut [u8],
     at: usize,
 ) -> Outcome
-    requires { ⌜ ((c : List ℕ) × Coreable c (now conflicts) (now x) (now y) rounds (now row) at) ⌝ }
+    requires { ⌜ ((c : List ℕ) × Coreable c (now conflicts) (now core1) (now core2) rounds (now row) at) ⌝ }
     ensures { λ r. ⌜ ((c : List ℕ)
-        → Coreable c (now (conflicts .entry)) (now (x .entry)) (now (y .entry)) rounds (now (row .entry)) at
-        → CoresLead c (now (x .entry)) (now (y .entry)) (now (row .entry)) at (now (row .exit)) r) ⌝ }
+        → Coreable c (now (conflicts .entry)) (now (core1 .entry)) (now (core2 .entry)) rounds (now (row .entry)) at
+        → CoresOutcome c (now (core1 .entry)) (now (core2 .entry)) (now (row .entry)) at (now (row .exit)) r) ⌝ }
 {
-    if same_bytes(x, y) {
+    if same_bytes(core1, core2) {
         return Outcome::Joined(at);
     }
-    let flags = occurring(x);
-    let others = occurring(y);
+    let flags = occurring(core1);
+    let others = occurring(core2);
     if !same_commands(&flags, &others) {
         return Outcome::Apart;
     }
     let names = labels(&flags, conflicts);
-    join_parts(x, y, &flags, &names, rounds, conflicts, row, at)
+    join_parts(core1, core2, &flags, &names, rounds, conflicts, row, at)
 }

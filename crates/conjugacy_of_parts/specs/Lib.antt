@@ -1,3 +1,3 @@
-pub mod Lead
+pub mod Parts
 pub mod TurnLaws
 pub mod PartLaws

@@ -24,7 +24,8 @@ use Rattle.conjugacy_ring.specs.Ring.{Ringable, Rung, Rings}
 use Rattle.conjugacy_ring.specs.RingLaws.{apex-some, apex-quiet, apex-cycled}
 use Rattle.conjugacy_of_parts.specs.declared.Outcome.{Outcome}
 use Rattle.conjugacy_of_parts.specs.declared.Outcome.the-variants.{Joined, Apart, Unsettled}
-use Rattle.conjugacy_of_parts.specs.Lead.{Turnable, Turned, Turns, Partable, Led, Leads}
+use Rattle.conjugacy_of_parts.specs.Parts.{RingsRoom, RingsJoined, RingsOutcome}
+use Rattle.conjugacy_of_parts.specs.Parts.{Partable, PartsJoined, PartsOutcome}
 
 pub rings-of : (c x : List ℕ) (apex rounds : ℕ) (ring out out′ : List ℕ) (at : ℕ) {r : Ringed} {e : Ends}
     → Rings c x apex rounds ring out out′ at r → r ≡ ringed.Of e → Rung c x apex ring out out′ at e
@@ -125,8 +126,8 @@ module _ {c : List ℕ} {conflicts : List (List ℕ)} {x y labels : List ℕ} {a
       unfolding part-ring
       first-length = ap length (f .ring) ∙ ring-length (alphabet c) (apical-part (alphabet c) x (k .apical))
 
-      pub way-turnable : Turnable (take (one .ring) ring) row″ (one .cycled) (two .cycled)
-      way-turnable =
+      pub rings-room : RingsRoom (take (one .ring) ring) row″ (one .cycled) (two .cycled)
+      rings-room =
           let w = behind-both less (length p) (length q) (length (settling (alphabet c) apex p))
           (length (settling (alphabet c) apex q)) at (length row) first-cycled second-cycled whole-room in
           record {
@@ -146,20 +147,20 @@ module _ {c : List ℕ} {conflicts : List (List ℕ)} {x y labels : List ℕ} {a
       way-cycled = g .cycled ∙ ap (λ (z : List ℕ). z ++ settling (alphabet c) apex q) (sym begins)
 
       -- the same with the rings themselves
-      turns-rings : (after : List ℕ) (o : Outcome)
-          → Turns c (take (one .ring) ring) (take (two .ring) other) (settling (alphabet c) apex q) row″
+      outcome-of-rings : (after : List ℕ) (o : Outcome)
+          → RingsOutcome c (take (one .ring) ring) (take (two .ring) other) (settling (alphabet c) apex q) row″
           (one .cycled) after o
-          → Turns c (part-ring (alphabet c) apex x) (part-ring (alphabet c) apex y) (settling (alphabet c) apex q)
-          row″ (one .cycled) after o
-      turns-rings after o h = rw (← f .ring, ← g .ring) h
+          → RingsOutcome c (part-ring (alphabet c) apex x) (part-ring (alphabet c) apex y)
+          (settling (alphabet c) apex q) row″ (one .cycled) after o
+      outcome-of-rings after o h = rw (← f .ring, ← g .ring) h
 
       -- it is the lead-in of the part
-      part-led : (after : List ℕ) (end : ℕ)
-          → Turned c (part-ring (alphabet c) apex x) (part-ring (alphabet c) apex y) (settling (alphabet c) apex q)
+      part-joined : (after : List ℕ) (end : ℕ)
+          → RingsJoined c (part-ring (alphabet c) apex x) (part-ring (alphabet c) apex y) (settling (alphabet c) apex q)
           row″ (one .cycled) after end
-          → Led c x y (apex ∷ []) row at after end
+          → PartsJoined c x y (apex ∷ []) row at after end
       unfolding parts-joined? parts-lead part-lead part-ring
-      part-led after end h =
+      part-joined after end h =
           let r = part-ring (alphabet c) apex x in
           let t = part-ring (alphabet c) apex y in
           let u = settling (alphabet c) apex p in
@@ -178,10 +179,10 @@ module _ {c : List ℕ} {conflicts : List (List ℕ)} {x y labels : List ℕ} {a
       unfolding parts-joined?
       part-apart h = rw h
 
-      pub way-leads : (after : List ℕ) (o : Outcome)
-          → Turns c (take (one .ring) ring) (take (two .ring) other) (settling (alphabet c) apex q) row″ (one .cycled)
-          after o
-          → Leads c x y (apex ∷ []) row at after o
-      way-leads after (Joined end) h = part-led after end (turns-rings after (Joined end) h)
-      way-leads after Apart h = part-apart (turns-rings after Apart h)
-      way-leads after (Unsettled n) h = h
+      pub part-outcome : (after : List ℕ) (o : Outcome)
+          → RingsOutcome c (take (one .ring) ring) (take (two .ring) other) (settling (alphabet c) apex q) row″
+          (one .cycled) after o
+          → PartsOutcome c x y (apex ∷ []) row at after o
+      part-outcome after (Joined end) h = part-joined after end (outcome-of-rings after (Joined end) h)
+      part-outcome after Apart h = part-apart (outcome-of-rings after Apart h)
+      part-outcome after (Unsettled n) h = h

@@ -22,7 +22,7 @@ use Rattle.conjugacy_rotation.specs.Told.{toldStart}
 use Rattle.array_row.specs.Row.{Appended, Undone}
 use Rattle.array_row.specs.RowLaws.{appended-take, appended-length}
 use Rattle.array_row.specs.UndoLaws.{undone-take}
-use Rattle.conjugacy_of_parts.specs.Lead.{Turnable, Turned}
+use Rattle.conjugacy_of_parts.specs.Parts.{RingsRoom, RingsJoined}
 
 and-false : (t : Bool) → (t && false) ≡ false
 and-false true = refl
@@ -46,17 +46,17 @@ module _ (c ring other : List ℕ) {i : ℕ} (f : rotation (alphabet c) ring oth
   start-count = sym (length-take-le i ring start-within)
 
   -- the row's end holds it, undone, behind the letters cycled
-  pub start-end : {row mid : List ℕ} {from at end : ℕ} → Turnable ring row from at
+  pub start-end : {row mid : List ℕ} {from at end : ℕ} → RingsRoom ring row from at
       → Appended row at (undoOf (take i ring)) mid end → end ≤ length row
   start-end t a = omega (arith, t .room, a .ends, undo-length undone (take i ring) [], start-count, start-within)
 
   -- the ring up to there stands, undone, behind the letters cycled, and all of it is undone
-  pub turned : {cycled row mid after : List ℕ} {from at end : ℕ}
+  pub rings-joined : {cycled row mid after : List ℕ} {from at end : ℕ}
       → Appended row at (undoOf (take i ring)) mid end → Undone mid from end after
       → take at row ≡ take from row ++ cycled → from ≤ at → end ≤ length row
-      → Turned c ring other cycled row from after end
+      → RingsJoined c ring other cycled row from after end
   unfolding place
-  turned {cycled} {row} {mid} {after} {from} {at} {end} a b t o l =
+  rings-joined {cycled} {row} {mid} {after} {from} {at} {end} a b t o l =
       let p : place (rotation (alphabet c) ring other) ≡ i = ap place f in
       let r = take i ring in
       let z : List ℕ = cycled ++ undoOf r in

@@ -12,7 +12,7 @@ ghost use Prim.Native.Nat.{ℕ};
 ghost use mathlib.Core.Path.{_≡_};
 ghost use mathlib.Core.List.{List, [], _∷_, _++_};
 ghost use lib.ListN.{take};
-ghost use Rattle.conjugacy_of_parts.specs.Lead.{Turnable, Turns, Partable, Leads};
+ghost use Rattle.conjugacy_of_parts.specs.Parts.{RingsRoom, RingsOutcome, Partable, PartsOutcome};
 
 // Two loops are joined, by a lead-in that ends here, or apart; or a part of plan 1 or 2 is unsettled.
 pub enum Outcome {
@@ -25,9 +25,10 @@ pub enum Outcome {
 // agree, and the letters cycled, undone. Those stand in the row up to `at`; the ring's letters are put behind them,
 // undone, and then all of it is undone where it stands.
 fn join_rings(ring: &[u8], other: &[u8], row: &mut [u8], from: usize, at: usize) -> Outcome
-    requires { ⌜ Turnable (now ring) (now row) from at ⌝ }
+    requires { ⌜ RingsRoom (now ring) (now row) from at ⌝ }
     ensures { λ r. ⌜ ((c cycled : List ℕ) → take at (now (row .entry)) ≡ take from (now (row .entry)) ++ cycled
-        → Turns c (now (ring .entry)) (now (other .entry)) cycled (now (row .entry)) from (now (row .exit)) r) ⌝ }
+        → RingsOutcome c (now (ring .entry)) (now (other .entry)) cycled (now (row .entry)) from (now (row .exit)) r)
+        ⌝ }
 {
     let found = rotation(ring, other);
     let Start::At(start) = found else {
@@ -40,8 +41,8 @@ fn join_rings(ring: &[u8], other: &[u8], row: &mut [u8], from: usize, at: usize)
 
 // The lead-in from the first core's part with this apex to the second's, behind the first bytes of the row.
 pub fn join_part(
-    x: &[u8],
-    y: &[u8],
+    core1: &[u8],
+    core2: &[u8],
     labels: &[u8; 24],
     apex: u8,
     rounds: usize,
@@ -49,20 +50,22 @@ pub fn join_part(
     row: &mut [u8],
     at: usize,
 ) -> Outcome
-    requires { ⌜ ((c : List ℕ) × Partable c (now conflicts) (now x) (now y) (now labels) apex rounds (now row) at) ⌝ }
+    requires { ⌜ ((c : List ℕ)
+        × Partable c (now conflicts) (now core1) (now core2) (now labels) apex rounds (now row) at) ⌝ }
     ensures { λ r. ⌜ ((c : List ℕ)
-        → Partable c (now (conflicts .entry)) (now (x .entry)) (now (y .entry)) (now (labels .entry)) apex rounds
-        (now (row .entry)) at
-        → Leads c (now (x .entry)) (now (y .entry)) (apex ∷ []) (now (row .entry)) at (now (row .exit)) r) ⌝ }
+        → Partable c (now (conflicts .entry)) (now (core1 .entry)) (now (core2 .entry)) (now (labels .entry)) apex
+        rounds (now (row .entry)) at
+        → PartsOutcome c (now (core1 .entry)) (now (core2 .entry)) (apex ∷ []) (now (row .entry)) at
+        (now (row .exit)) r) ⌝ }
 {
     let mut ring = sheet();
     let mut other = sheet();
-    let first = ring_of(x, labels, apex, rounds, conflicts, &mut ring, row, at);
+    let first = ring_of(core1, labels, apex, rounds, conflicts, &mut ring, row, at);
     let Ringed::Of(one) = first else {
         return Outcome::Unsettled(1);
     };
     let end = one.cycled;
-    let second = ring_of(y, labels, apex, rounds, conflicts, &mut other, row, end);
+    let second = ring_of(core2, labels, apex, rounds, conflicts, &mut other, row, end);
     let Ringed::Of(two) = second else {
         return Outcome::Unsettled(2);
     };

@@ -13,14 +13,14 @@ use Rattle.conjugacy_of_plans.specs.Stripped.{Stripped}
 use Rattle.conjugacy_of_plans.specs.StrippedLaws.{form-~}
 
 module _ {c v core lead core′ lead′ : List ℕ} {n m : ℕ} (k : CoreOf c v core lead core′ lead′ n m) where
-  pub stripped : Stripped c v (take n core′) (take m lead′)
-  stripped = record {
+  pub core-of-stripped : Stripped c v (take n core′) (take m lead′)
+  core-of-stripped = record {
     form = starts-take (k .form);
     off = k .off;
   }
 
-  pub off-count : m ≡ length (take m lead′)
-  off-count = omega (
+  pub lead-count : m ≡ length (take m lead′)
+  lead-count = omega (
     arith,
     k .count,
     core-length (alphabet c) (letters v),
@@ -29,5 +29,5 @@ module _ {c v core lead core′ lead′ : List ℕ} {n m : ℕ} (k : CoreOf c v 
     k .form .ends,
   )
 
-  pub off-fits : m ≤ length lead′
-  off-fits = omega (arith, off-count, length-take m lead′)
+  pub lead-fits : m ≤ length lead′
+  lead-fits = omega (arith, lead-count, length-take m lead′)

@@ -22,15 +22,16 @@ use Rattle.array_row.specs.RowLaws.{appended-take, appended-length}
 use Rattle.conjugacy_ring.specs.Ring.{Cyclic}
 use Rattle.conjugacy_of_parts.specs.declared.Outcome.{Outcome}
 use Rattle.conjugacy_of_parts.specs.declared.Outcome.the-variants.{Joined, Apart, Unsettled}
-use Rattle.conjugacy_of_parts.specs.Lead.{Stops}
-use Rattle.conjugacy_of_cores.specs.Pair.{Coreable, CoresLed, CoresLead}
+use Rattle.conjugacy_of_parts.specs.Parts.{Stops}
+use Rattle.conjugacy_of_cores.specs.Pair.{Coreable, CoresJoined, CoresOutcome}
 use Rattle.input_checks.specs.Passed.{Passed}
 use Rattle.conjugacy_of_plans.specs.VerdictLaws.{through, through-count}
 use Rattle.conjugacy_of_plans.specs.Stripped.{Stripped}
-use Rattle.conjugacy_of_plans.specs.StrippedLaws.{core-~, off-length, off-commands, no-letters, verdict}
+use Rattle.conjugacy_of_plans.specs.StrippedLaws.{core-~, off-length, off-commands, no-letters}
 use Rattle.conjugacy_of_plans.specs.StrippedLaws.{through-joined, through-commands, through-room, through-short}
-use Rattle.conjugacy_of_plans.specs.StrippedLaws.{through-lead-in}
-use Rattle.conjugacy_of_plans.specs.Join.{Plans, Cores, crossRoom, LeadWord, LeadsWord, Told, joined, apart}
+use Rattle.conjugacy_of_plans.specs.StrippedLaws.{through-lead-in, cores-joined-plans}
+use Rattle.conjugacy_of_plans.specs.Join.{Plans, Cores, wordRoom, WordJoined, WordOutcome}
+use Rattle.conjugacy_of_plans.specs.Join.{PlansOutcome, joined, apart}
 
 -- a plan's core is cyclically reduced
 pub stripped-cyclic : {c : List ℕ} {conflicts : List (List ℕ)} {v x g : List ℕ} → Passed c conflicts v
@@ -44,10 +45,10 @@ stripped-cyclic {c} {v = v} p k = record {
 }
 
 -- room for the letters taken off and what as many rounds as commands cycle
-around : (n g x h y : ℕ) → (n ≡ 0 → (2 * g + x) + (2 * h + y) ≡ 0)
+lead-and-cycled-fit : (n g x h y : ℕ) → (n ≡ 0 → (2 * g + x) + (2 * h + y) ≡ 0)
     → g + n * (x + y) ≤ n * ((2 * g + x) + (2 * h + y))
-around zero g x h y z = let e = z refl in omega arith
-around (suc n) g x h y z =
+lead-and-cycled-fit zero g x h y z = let e = z refl in omega arith
+lead-and-cycled-fit (suc n) g x h y z =
     let d = 2 * g + 2 * h in
     let e : (2 * g + x) + (2 * h + y) ≡ d + (x + y) = omega arith in
     let f : 1 * d ≤ suc n * d = mul-le-mul-right d (omega arith) in
@@ -59,42 +60,44 @@ module _ {c : List ℕ} {conflicts : List (List ℕ)} {v w x g y h : List ℕ} {
   p = k .plans
 
   -- the row and the way from core to core
-  module _ (row : List ℕ) (r : crossRoom n x g y h ≤ length row) where
-    begun : length g + n * (length x + length y) ≤ length row
-    begun =
+  module _ (row : List ℕ) (r : wordRoom n x g y h ≤ length row) where
+    lead-and-cycled-room : length g + n * (length x + length y) ≤ length row
+    lead-and-cycled-room =
         let z = no-letters c k in
-        let e = around n (length g) (length x) (length h) (length y) (λ m. z (sym (p .many) ∙ m)) in
+        let e = lead-and-cycled-fit n (length g) (length x) (length h) (length y) (λ m. z (sym (p .many) ∙ m)) in
         omega (arith, e, r)
 
-    pub join-off : 0 + length g ≤ length row
-    join-off = omega (arith, begun)
+    pub lead-room : 0 + length g ≤ length row
+    lead-room = omega (arith, lead-and-cycled-room)
 
     pub join-coreable : {row′ : List ℕ} {at : ℕ} → Appended row 0 g row′ at → Coreable c conflicts x y n row′ at
     join-coreable a = record {
       first = stripped-cyclic (p .first) (k .first);
       second = stripped-cyclic (p .second) (k .second);
       enough = p .many;
-      room = omega (arith, a .ends, begun, appended-length a (omega (arith, a .ends, begun)));
+      room =
+          let l = lead-and-cycled-room in
+          omega (arith, a .ends, l, appended-length a (omega (arith, a .ends, l)));
     }
 
     pub join-short : {row′ : List ℕ} {at end : ℕ} {row″ : List ℕ} → Appended row 0 g row′ at
-        → CoresLed c x y row′ at row″ end → end + length h ≤ length row
+        → CoresJoined c x y row′ at row″ end → end + length h ≤ length row
     join-short a j =
-        let t = through-room c k (j .passage) in
-        let s = subst (λ m. length (through (alphabet c) g (j .word) h) ≤ crossRoom m x g y h) (sym (p .many)) t in
+        let t = through-room c k (j .conjugator) in
+        let s = subst (λ m. length (through (alphabet c) g (j .word) h) ≤ wordRoom m x g y h) (sym (p .many)) t in
         omega (arith, a .ends, j .ends, s, through-count (alphabet c) g (j .word) h, r)
 
-  -- the verdict, where there is no lead-in
+  -- the outcome, where there is no lead-in
   pub join-stop : (before : List ℕ) (at : ℕ) (after : List ℕ) (o : Outcome) → Stops o
-      → CoresLead c x y before at after o → LeadsWord c v w after o
+      → CoresOutcome c x y before at after o → WordOutcome c v w after o
   join-stop before at after (Joined e) s d = absurd s
-  join-stop before at after Apart s d = sym (verdict c k) ∙ d
+  join-stop before at after Apart s d = sym (cores-joined-plans c k) ∙ d
   join-stop before at after (Unsettled q) s d = d
 
   -- the word in the row
   pub join-word : {row row′ row″ row‴ : List ℕ} {at end last : ℕ} → Appended row 0 g row′ at → at ≤ length row
-      → CoresLed c x y row′ at row″ end → Appended row″ end (undoOf h) row‴ last
-      → end + length h ≤ length row″ → LeadWord c v w row‴ last
+      → CoresJoined c x y row′ at row″ end → Appended row″ end (undoOf h) row‴ last
+      → end + length h ≤ length row″ → WordJoined c v w row‴ last
   join-word {row} {row′} {row″} {row‴} {at} {end} {last} a m j b f =
       let u = j .word in
       let t = through (alphabet c) g u h in
@@ -102,35 +105,36 @@ module _ {c : List ℕ} {conflicts : List (List ℕ)} {v w x g y h : List ℕ} {
       appended-take b (omega (arith, b .ends, undo-length undone h []))
       ∙ ap (λ (z : List ℕ). z ++ undoOf h) (j .written ∙ ap (λ (z : List ℕ). z ++ u) (appended-take a m))
       ∙ append-assoc g u (undoOf h) in
-      let s = through-short c k (j .passage) in
+      let s = through-short c k (j .conjugator) in
       let q : last ≡ length t =
       omega (arith, a .ends, j .ends, b .ends, undo-length undone h [], through-count (alphabet c) g u h) in
       record {
-        joined = through-joined c k (j .passage);
+        joined = through-joined c k (j .conjugator);
         count = q ∙ ap length (sym e);
-        letters = rw e (through-commands c k (j .passage));
+        letters = rw e (through-commands c k (j .conjugator));
         short = omega (arith, q, s);
-        leads = rw e (through-lead-in c k (j .passage));
+        lead-in = rw e (through-lead-in c k (j .conjugator));
       }
 
 -- what the way from core to core tells
-pub cores-led : (c x y before : List ℕ) (at : ℕ) (after : List ℕ) {o : Outcome} {end : ℕ}
-    → CoresLead c x y before at after o → o ≡ Joined end → CoresLed c x y before at after end
-cores-led c x y before at after d e = subst (CoresLead c x y before at after) e d
+pub cores-joined : (c x y before : List ℕ) (at : ℕ) (after : List ℕ) {o : Outcome} {end : ℕ}
+    → CoresOutcome c x y before at after o → o ≡ Joined end → CoresJoined c x y before at after end
+cores-joined c x y before at after d e = subst (CoresOutcome c x y before at after) e d
 
 -- the word in the row put in normal form
 
-pub word-led : (c v w row : List ℕ) {o : Outcome} {end : ℕ} → LeadsWord c v w row o → o ≡ Joined end
-    → LeadWord c v w row end
-word-led c v w row d e = subst (LeadsWord c v w row) e d
+pub word-joined : (c v w row : List ℕ) {o : Outcome} {end : ℕ} → WordOutcome c v w row o → o ≡ Joined end
+    → WordJoined c v w row end
+word-joined c v w row d e = subst (WordOutcome c v w row) e d
 
-pub word-stop : (c v w row area : List ℕ) (o : Outcome) → Stops o → LeadsWord c v w row o → Told c v w area o area
+pub word-stop : (c v w row area : List ℕ) (o : Outcome) → Stops o → WordOutcome c v w row o
+    → PlansOutcome c v w area o area
 word-stop c v w row area (Joined e) s d = absurd s
 word-stop c v w row area Apart s d = apart d
 word-stop c v w row area (Unsettled q) s d = absurd d
 
 module _ {c : List ℕ} {conflicts : List (List ℕ)} {v w : List ℕ} {n : ℕ} (p : Plans c conflicts v w n)
-    {row : List ℕ} {end : ℕ} (d : LeadWord c v w row end) where
+    {row : List ℕ} {end : ℕ} (d : WordJoined c v w row end) where
   word-short : end ≤ n * (length v + length w)
   word-short = subst (λ m. end ≤ m * (length v + length w)) (sym (p .many)) (d .short)
 
@@ -156,8 +160,8 @@ module _ {c : List ℕ} {conflicts : List (List ℕ)} {v w : List ℕ} {n : ℕ}
     fits = omega (arith, d .count, word-short, letters-length (take end row));
   }
 
-  pub word-told : {area after : List ℕ} {r : ℕ} → StartsWith (normalForm c (take end row)) area after r
-      → Told c v w area (Joined r) after
-  word-told {area} {after} {r} o =
-      subst₂ (λ m a. Told c v w area (Joined m) a) (sym (starts-length o)) (sym (starts-area o))
-      (joined (d .joined) (d .leads))
+  pub word-outcome : {area after : List ℕ} {r : ℕ} → StartsWith (normalForm c (take end row)) area after r
+      → PlansOutcome c v w area (Joined r) after
+  word-outcome {area} {after} {r} o =
+      subst₂ (λ m a. PlansOutcome c v w area (Joined m) a) (sym (starts-length o)) (sym (starts-area o))
+      (joined (d .joined) (d .lead-in))

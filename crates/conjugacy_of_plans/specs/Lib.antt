@@ -1,5 +1,5 @@
 pub mod CoresLaws
-pub mod SpanLaws
+pub mod RoomLaws
 pub mod VerdictLaws
 pub mod Stripped
 pub mod StrippedLaws

@@ -1,4 +1,5 @@
--- The verdict on two plans from their cores in normal form, and the lead-in, which is a normal form, joins and fits.
+-- Whether two plans are joined, from their cores in normal form; and the lead-in, which is a normal form, joins and
+-- fits.
 use Prim.Native.Nat.{ℕ, _+_, _*_, _≤_}
 use native.Mathlib.Omega.{arith}
 use native.Mathlib.Nat.{mul-le-mul-left}
@@ -31,10 +32,11 @@ use Rattle.spec_laws.specs.NormalFormLaws.{normal-letters, normal-passing}
 use Rattle.spec_laws.specs.JoinLaws.{joins-words}
 use Rattle.spec.specs.Calls.{coreForm}
 use Rattle.spec.specs.Loops.{LeadIn, leadInRoom}
-use Rattle.conjugacy_of_cores.specs.Pair.{Passage}
+use Rattle.conjugacy_of_cores.specs.Pair.{Conjugator}
 use Rattle.conjugacy_of_plans.specs.Stripped.{Stripped}
 use Rattle.conjugacy_of_plans.specs.Join.{Cores}
-use Rattle.conjugacy_of_plans.specs.VerdictLaws.{cores-verdict, through, through-conj, through-count, through-all}
+use Rattle.conjugacy_of_plans.specs.VerdictLaws.{cores-joined-same, through, through-conj, through-count}
+use Rattle.conjugacy_of_plans.specs.VerdictLaws.{through-all}
 
 module _ (c : List ℕ) where
   infix 20 _~_ _≈_
@@ -96,19 +98,20 @@ module _ (c : List ℕ) where
     no-letters e =
         let n = commands c in
         let r : (z : List ℕ) → Passing n z → length (letters z) ≡ 0 =
-        λ z p. none-occur (alphabet c) n (letters z) (commands-range n (letters z) (d .plans .first .few) (letters-commands n z p)) e in
+        λ z p. none-occur (alphabet c) n (letters z)
+        (commands-range n (letters z) (d .plans .first .few) (letters-commands n z p)) e in
         omega (arith, r v pv, r w pw, off-length k, off-length l)
 
-    pub verdict : cores-joined? (alphabet c) x y ≡ joined? (alphabet c) (letters v) (letters w)
-    verdict = cores-verdict (alphabet c) (letters v) (letters w) x y (core-~ k) (core-~ l)
+    pub cores-joined-plans : cores-joined? (alphabet c) x y ≡ joined? (alphabet c) (letters v) (letters w)
+    cores-joined-plans = cores-joined-same (alphabet c) (letters v) (letters w) x y (core-~ k) (core-~ l)
 
-    -- where a passage leads from core to core, a word leads from plan to plan
-    module _ {u : List ℕ} (q : Passage c x y u) where
+    -- from a conjugator between the cores, one between the plans
+    module _ {u : List ℕ} (q : Conjugator c x y u) where
       abbrev t : List ℕ
       t = through (alphabet c) g u h
 
       conjugates : conj (alphabet c) t (letters v) ≈ letters w
-      conjugates = through-conj (alphabet c) g u h (letters v) (letters w) (off-conj k) (q .leads) (off-conj l)
+      conjugates = through-conj (alphabet c) g u h (letters v) (letters w) (off-conj k) (q .conjugates) (off-conj l)
 
       pub through-joined : joined? (alphabet c) (letters v) (letters w) ≡ true
       through-joined = conjugate-joined (alphabet c) t (letters v) (letters w) conjugates

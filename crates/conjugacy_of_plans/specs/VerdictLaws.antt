@@ -33,8 +33,8 @@ module _ (Γ : Alphabet) where
   _≈_ = Group._≈_ Γ
 
   -- the verdict is the same on words that swaps lead to from the cores
-  pub cores-verdict : (v w x y : Word Γ) → x ~ core Γ v → y ~ core Γ w → cores-joined? Γ x y ≡ joined? Γ v w
-  cores-verdict v w x y d e = true-same (cores-joined? Γ x y) (joined? Γ v w)
+  pub cores-joined-same : (v w x y : Word Γ) → x ~ core Γ v → y ~ core Γ w → cores-joined? Γ x y ≡ joined? Γ v w
+  cores-joined-same v w x y d e = true-same (cores-joined? Γ x y) (joined? Γ v w)
       (λ t. conjugate-joined Γ _ v w (cores-conjugate Γ (parts-lead Γ (apexes Γ x) x y) v w
       (then (≈-conj Γ (parts-lead Γ (apexes Γ x) x y) (back (~→≈ Γ d))) (then (cores-lead Γ x y t) (~→≈ Γ e)))))
       (λ t. turns-joined Γ (also (same d)

@@ -72,12 +72,12 @@ pub relabelling-end : {low high : ℕ} {before now : List ℕ} {k : ℕ} → 24 
 relabelling-end l r = record { kept = r .kept; each = λ j h. r .below j (omega arith) }
 
 -- the labels of commands i + 1 and j + 1 become one: the smaller is renamed, or they are equal
-pub joined : {low high : ℕ} {lab : ℕ → ℕ} {before after : List ℕ} (i j : ℕ) → i < 24 → j < 24
+pub united : {low high : ℕ} {lab : ℕ → ℕ} {before after : List ℕ} (i j : ℕ) → i < 24 → j < 24
     → (length before ≡ 24 → Relabelled low high before after) → low ≡ min (getD before i 0) (getD before j 0)
     → high ≡ max (getD before i 0) (getD before j 0) → LabelsOf lab before
     → LabelsOf (λ k. relabel (lab (i + 1)) (lab (j + 1)) (lab k)) after
 unfolding relabel
-joined i j l m f d e h =
+united i j l m f d e h =
     let r = f (h .many) in
     record {
       many = r .kept ∙ h .many;
@@ -92,9 +92,9 @@ relabel-equal m l = go (eqb l (min m m)) refl
     go true e = omega (arith, eqb-true l (min m m) e)
     go false e = refl
 
-pub joined-equal : {lab : ℕ → ℕ} {labels : List ℕ} (i j : ℕ) → i < 24 → j < 24 → getD labels i 0 ≡ getD labels j 0
+pub united-equal : {lab : ℕ → ℕ} {labels : List ℕ} (i j : ℕ) → i < 24 → j < 24 → getD labels i 0 ≡ getD labels j 0
     → LabelsOf lab labels → LabelsOf (λ k. relabel (lab (i + 1)) (lab (j + 1)) (lab k)) labels
-joined-equal {lab} i j l m n h =
+united-equal {lab} i j l m n h =
     let e : lab (i + 1) ≡ lab (j + 1) = sym (h .each i l) ∙ n ∙ h .each j m in
     record {
       many = h .many;

@@ -44,8 +44,8 @@ returns-2 c =
     loops-small (e .two-plans .ensures) (area e) (k .before .checked .given .1) (c .before .if1 .taken)
     (c .small-area .ensures)
 
-join-requires : tie.Need-join-requires
-join-requires c κs =
+join-plans-requires : tie.Need-join-plans-requires
+join-plans-requires c κs =
     let i = c .before .before in
     let p = plans (i .before) in
     (cat (i .before), p, i .if1 .left)
@@ -58,10 +58,10 @@ returns-3 c =
     let e = checks k in
     let s = start e in
     let p = plans k in
-    subst (λ t. Looped (cat k) (s .args .v .now) (s .args .w .now) (area e) t (j .join .last .1 .1 .1 .1 .0))
+    subst (λ t. Looped (cat k) (s .args .v .now) (s .args .w .now) (area e) t (j .join-plans .last .1 .1 .1 .1 .0))
     (sym (c .verdict .ensures))
     (loops-told (e .two-plans .ensures) (area e) (k .before .checked .given .1) (i .if1 .left)
-    (j .join .ensures (cat k) p))
+    (j .join-plans .ensures (cat k) p))
 
 pub loops-spec : {M : Type 1} → statement M
 loops-spec =
@@ -77,7 +77,7 @@ loops-spec =
     mul-if1
     (λ c κs. search needs)
     returns-2
-    join-requires
+    join-plans-requires
     (λ c κs. search needs)
     (λ c. search needs)
     returns-3)

@@ -1,7 +1,7 @@
 -- A command that does not occur, or has another label, adds nothing; any other is an apex. Assumes nothing.
 use native.Mathlib.Omega.{arith}
 use borrow.Author.Needs.{needs}
-use Rattle.conjugacy_of_cores.specs.PlaceLaws.{place-absent, place-other, place-partable, place-leads}
+use Rattle.conjugacy_of_cores.specs.PlaceLaws.{place-absent, place-other, place-partable, place-outcome}
 use Rattle.conjugacy_of_cores.proofs.join_at.Statement.{statement}
 use Rattle.conjugacy_of_cores.proofs.join_at.Tie as tie
 
@@ -27,7 +27,7 @@ returns-3 c =
     let l = start e .pre .0 in
     let f = e .before .before .if1 .left in
     let g = e .if2 .left in
-    λ k h. place-leads h l f g (a .join-part .last .1 .1 .1 .1 .1 .1 .0) (a .join-part .result)
+    λ k h. place-outcome h l f g (a .join-part .last .1 .1 .1 .1 .1 .1 .0) (a .join-part .result)
     (a .join-part .ensures k (place-partable h l f g))
 
 pub join-at-spec : {M : Type 1} → statement M

@@ -7,8 +7,8 @@ use borrow.Author.Needs.{needs}
 use Rattle.spec.specs.Letters.{alphabet}
 use Rattle.theory_conjugacy.specs.Part.{commands}
 use Rattle.conjugacy_ring.specs.RingLaws.{cyclic-lettered}
-use Rattle.conjugacy_of_cores.specs.CoreLaws.{tells-same, cores-apart, cores-leadable, cores-lead}
-use Rattle.conjugacy_of_cores.specs.PassageLaws.{cores-same}
+use Rattle.conjugacy_of_cores.specs.CoreLaws.{tells-same, cores-apart, cores-flagged, cores-outcome}
+use Rattle.conjugacy_of_cores.specs.ConjugatorLaws.{cores-same}
 use Rattle.conjugacy_of_cores.proofs.join_cores.Statement.{statement}
 use Rattle.conjugacy_of_cores.proofs.join_cores.Tie as tie
 
@@ -24,7 +24,7 @@ start m = compared m .before .before .before .before
 -- the same commands occur
 same : (l : tie.After-labels) (k : List ℕ)
     → (let s = start (l .before .before .before) .args in
-    commands (alphabet k) (s .x .now) ≡ commands (alphabet k) (s .y .now))
+    commands (alphabet k) (s .core1 .now) ≡ commands (alphabet k) (s .core2 .now))
 same l k =
     let m = l .before .before .before in
     let o = flagged m in
@@ -58,7 +58,7 @@ join-parts-requires c κs =
     let m = l .before .before .before in
     let (k, h) = start m .pre in
     let f = flagged m .before .occurring .ensures k in
-    (k, cores-leadable h (same l k) f (l .labels .ensures k _ (h .first .table) f), h .room)
+    (k, cores-flagged h (same l k) f (l .labels .ensures k _ (h .first .table) f), h .room)
 
 returns-3 : tie.Need-returns-3
 returns-3 c =
@@ -68,8 +68,8 @@ returns-3 c =
     let j = a .join-parts in
     λ k h.
     let f = flagged m .before .occurring .ensures k in
-    cores-lead h (same l k) (j .last .1 .1 .1 .1 .1 .1 .0) (j .result)
-    (j .ensures k (cores-leadable h (same l k) f (l .labels .ensures k _ (h .first .table) f)))
+    cores-outcome h (same l k) (j .last .1 .1 .1 .1 .1 .1 .0) (j .result)
+    (j .ensures k (cores-flagged h (same l k) f (l .labels .ensures k _ (h .first .table) f)))
 
 pub join-cores-spec : {M : Type 1} → statement M
 join-cores-spec =

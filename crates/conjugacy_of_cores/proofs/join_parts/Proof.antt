@@ -6,16 +6,16 @@ use mathlib.Core.List.{List}
 use native.Mathlib.Omega.{arith}
 use lib.ListN.{length}
 use borrow.Author.Needs.{needs}
-use Rattle.conjugacy_of_cores.specs.Pair.{Leadable, Sofar}
+use Rattle.conjugacy_of_cores.specs.Pair.{Flagged, Sofar}
 use Rattle.conjugacy_of_cores.specs.SofarLaws.{sofar-start, sofar-placeable, sofar-again, sofar-stop, sofar-end}
-use Rattle.conjugacy_of_cores.specs.SofarLaws.{leads-joined}
+use Rattle.conjugacy_of_cores.specs.SofarLaws.{parts-joined}
 use Rattle.conjugacy_of_parts.proofs.OutcomeLaws.{stops}
 use Rattle.conjugacy_of_cores.proofs.join_parts.Statement.{statement}
 use Rattle.conjugacy_of_cores.proofs.join_parts.Tie as tie
 
 abbrev Inv-loop : tie.InvT-loop
 Inv-loop x y flags labels rounds conflicts row₀ at end₀ k₀ row end k =
-    (length row ≡ length row₀) × ((c : List ℕ) → Leadable c conflicts x y flags labels rounds
+    (length row ≡ length row₀) × ((c : List ℕ) → Flagged c conflicts x y flags labels rounds
     → Sofar c x y flags labels row₀ at row end k)
 
 abbrev μ-loop : tie.MeasureT-loop
@@ -62,7 +62,7 @@ loop-again c =
       a .join-at .kept .1 .1 .1 .1 .1 .1 .1 .0 ∙ l .loop .inv .0,
       λ k h.
           let s = l .loop .inv .1 k h in
-          sofar-again h s (omega arith) (leads-joined k _ _ _ _ _ _
+          sofar-again h s (omega arith) (parts-joined k _ _ _ _ _ _
           (a .join-at .ensures k (sofar-placeable h s (l .loop .inv .0) (omega arith) r)) (c .before .way .given .1)),
     )
 

@@ -4,9 +4,9 @@ use Prim.Native.Nat.{ℕ}
 use mathlib.Core.List.{List}
 use borrow.Author.Needs.{needs}
 use Rattle.conjugacy_ring.specs.Ring.{Ringable, Rung}
-use Rattle.conjugacy_of_parts.specs.Lead.{Partable}
+use Rattle.conjugacy_of_parts.specs.Parts.{Partable}
 use Rattle.conjugacy_of_parts.specs.PartLaws.{rings-of, rung-count, rung-fits, part-first, part-second}
-use Rattle.conjugacy_of_parts.specs.PartLaws.{first-settled, second-settled, way-turnable, way-cycled, way-leads}
+use Rattle.conjugacy_of_parts.specs.PartLaws.{first-settled, second-settled, rings-room, way-cycled, part-outcome}
 use Rattle.conjugacy_of_parts.proofs.join_part.Statement.{statement}
 use Rattle.conjugacy_of_parts.proofs.join_part.Tie as tie
 
@@ -31,10 +31,11 @@ first q = known (ringed2 q)
 abbrev Asked : tie.After-ring-of → List ℕ → Type 0
 Asked a k =
     let s = start a .args in
-    Partable k (s .conflicts .now) (s .x .now) (s .y .now) (s .labels .now) (s .apex) (s .rounds) (s .row .now) (s .at)
+    Partable k (s .conflicts .now) (s .core1 .now) (s .core2 .now) (s .labels .now) (s .apex) (s .rounds)
+    (s .row .now) (s .at)
 
 first-asked : (a : tie.After-ring-of) (k : List ℕ) → Asked a k
-    → (let s = start a .args in Ringable k (s .conflicts .now) (s .x .now) (s .labels .now) (s .apex) (s .rounds)
+    → (let s = start a .args in Ringable k (s .conflicts .now) (s .core1 .now) (s .labels .now) (s .apex) (s .rounds)
     (a .before .before .before .before .sheet .result) (s .row .now) (s .at))
 first-asked a k h = part-first h _ (a .before .before .before .before .sheet .ensures)
 
@@ -42,13 +43,13 @@ first-asked a k h = part-first h _ (a .before .before .before .before .sheet .en
 
 one : (p : tie.After-first) (k : List ℕ) → Asked (ringed p) k
     → (let a = ringed p in let s = start a .args in
-    Rung k (s .x .now) (s .apex) (a .ring-of .last .1 .1 .1 .1 .1 .0) (s .row .now)
+    Rung k (s .core1 .now) (s .apex) (a .ring-of .last .1 .1 .1 .1 .1 .0) (s .row .now)
     (a .ring-of .last .1 .1 .1 .1 .1 .1 .0) (s .at) (p .first .given .0 .0))
 one p k h = rings-of k _ _ _ _ _ _ _ (ringed p .ring-of .ensures k (first-asked (ringed p) k h)) (p .first .given .1)
 
 second-asked : (p : tie.After-first) (k : List ℕ) → Asked (ringed p) k
     → (let a = ringed p in let s = start a .args in
-    Ringable k (s .conflicts .now) (s .y .now) (s .labels .now) (s .apex) (s .rounds)
+    Ringable k (s .conflicts .now) (s .core2 .now) (s .labels .now) (s .apex) (s .rounds)
     (a .before .before .before .sheet2 .result)
     (a .ring-of .last .1 .1 .1 .1 .1 .1 .0) (p .first .given .0 .0 .cycled))
 second-asked p k h =
@@ -57,7 +58,7 @@ second-asked p k h =
 
 two : (q : tie.After-second) (k : List ℕ) → Asked (ringed (first q)) k
     → (let p = first q in let s = start (ringed p) .args in
-    Rung k (s .y .now) (s .apex) (ringed2 q .ring-of2 .last .1 .1 .1 .1 .1 .0)
+    Rung k (s .core2 .now) (s .apex) (ringed2 q .ring-of2 .last .1 .1 .1 .1 .1 .0)
     (ringed p .ring-of .last .1 .1 .1 .1 .1 .1 .0) (ringed2 q .ring-of2 .last .1 .1 .1 .1 .1 .1 .0)
     (p .first .given .0 .0 .cycled) (q .second .given .0 .0))
 two q k h =
@@ -114,7 +115,7 @@ join-rings-requires c κs =
     let q = c .before .before .before .before in
     let a = ringed (first q) in
     let (k, h) = start a .pre in
-    way-turnable h (one (first q) k h) (a .ring-of .kept .1 .1 .1 .1 .1 .1 .0) (two q k h)
+    rings-room h (one (first q) k h) (a .ring-of .kept .1 .1 .1 .1 .1 .1 .0) (two q k h)
     (ringed2 q .ring-of2 .kept .1 .1 .1 .1 .1 .1 .0)
 
 returns-3 : tie.Need-returns-3
@@ -126,7 +127,7 @@ returns-3 c =
     λ k h.
     let f = one (first q) k h in
     let g = two q k h in
-    way-leads h f m g n (j .last .1 .1 .0) (j .result) (j .ensures k _ (way-cycled h f m g n))
+    part-outcome h f m g n (j .last .1 .1 .0) (j .result) (j .ensures k _ (way-cycled h f m g n))
 
 pub join-part-spec : {M : Type 1} → statement M
 join-part-spec =

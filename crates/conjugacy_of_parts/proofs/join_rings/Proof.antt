@@ -9,7 +9,7 @@ use borrow.Author.Needs.{needs}
 use Rattle.spec.specs.Letters.{alphabet}
 use Rattle.theory_conjugacy.specs.Rotation.{rotation}
 use Rattle.conjugacy_of_parts.specs.TurnLaws.{nowhere-apart, start-found, start-within, start-count, start-end}
-use Rattle.conjugacy_of_parts.specs.TurnLaws.{turned}
+use Rattle.conjugacy_of_parts.specs.TurnLaws.{rings-joined}
 use Rattle.conjugacy_of_parts.proofs.join_rings.Statement.{statement}
 use Rattle.conjugacy_of_parts.proofs.join_rings.Tie as tie
 
@@ -60,7 +60,7 @@ returns-2 c =
     let b = c .before .before .undo-between .ensures in
     let s = start q .pre in
     λ k z t.
-    turned k (ring q) (other q) (place q k) a b t (s .ordered) (start-end k (ring q) (other q) (place q k) s a)
+    rings-joined k (ring q) (other q) (place q k) a b t (s .ordered) (start-end k (ring q) (other q) (place q k) s a)
 
 pub join-rings-spec : {M : Type 1} → statement M
 join-rings-spec =

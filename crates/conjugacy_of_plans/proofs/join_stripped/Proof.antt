@@ -1,9 +1,9 @@
 -- The sums fit, and each row is as long as the room tested. Assumes nothing.
 use native.Mathlib.Omega.{arith}
-use Rattle.conjugacy_of_plans.specs.SpanLaws.{cores-all}
+use Rattle.conjugacy_of_plans.specs.RoomLaws.{cores-all}
 use borrow.Author.Needs.{needs}
-use Rattle.conjugacy_of_plans.proofs.span.Statement.{statement}
-use Rattle.conjugacy_of_plans.proofs.span.Tie as tie
+use Rattle.conjugacy_of_plans.proofs.join_stripped.Statement.{statement}
+use Rattle.conjugacy_of_plans.proofs.join_stripped.Tie as tie
 
 add-need : tie.Need-add-need
 add-need c = omega (arith, cores-all (c .before .before .before .before .before .pre .3))
@@ -14,32 +14,32 @@ add-need-2 c = omega (arith, cores-all (c .before .before .before .before .befor
 add-need-3 : tie.Need-add-need-3
 add-need-3 c = omega (arith, cores-all (c .before .before .before .before .before .pre .3))
 
-cross-requires : tie.Need-cross-requires
-cross-requires c κs =
+lead-in-form-requires : tie.Need-lead-in-form-requires
+lead-in-form-requires c κs =
     let i = c .before .before .before in
     let (k, v, w, p, r, f) = i .before .before .before .before .before .before .pre in
     (k, v, w, p, omega (arith, i .if1 .taken, c .before .before .short-row .ensures), f)
 
-cross-requires-2 : tie.Need-cross-requires-2
-cross-requires-2 c κs =
+lead-in-form-requires-2 : tie.Need-lead-in-form-requires-2
+lead-in-form-requires-2 c κs =
     let i = c .before .before .before in
     let (k, v, w, p, r, f) = i .before .before .before .before .before .before .before .pre in
     (k, v, w, p, omega (arith, i .if2 .taken, c .before .before .middle-row .ensures), f)
 
-cross-requires-3 : tie.Need-cross-requires-3
-cross-requires-3 c κs =
+lead-in-form-requires-3 : tie.Need-lead-in-form-requires-3
+lead-in-form-requires-3 c κs =
     let i = c .before .before .before in
     let (k, v, w, p, r, f) = i .before .before .before .before .before .before .before .before .pre in
     (k, v, w, p, omega (arith, i .if3 .taken, c .before .before .wide-row .ensures), f)
 
-cross-requires-4 : tie.Need-cross-requires-4
-cross-requires-4 c κs =
+lead-in-form-requires-4 : tie.Need-lead-in-form-requires-4
+lead-in-form-requires-4 c κs =
     let (k, v, w, p, r, f) =
-        c .before .before .before .before .before .before .before .before .before .before .before .pre in
+    c .before .before .before .before .before .before .before .before .before .before .before .pre in
     (k, v, w, p, omega (arith, r, c .before .before .blank-row .ensures), f)
 
-pub span-spec : {M : Type 1} → statement M
-span-spec =
+pub join-stripped-spec : {M : Type 1} → statement M
+join-stripped-spec =
     tie.close
     (tie.spec
     (λ c. search needs)
@@ -50,21 +50,21 @@ span-spec =
     (λ c. search needs)
     (λ c κs. search needs)
     (λ c. search needs)
-    cross-requires
+    lead-in-form-requires
     (λ c. search needs)
     (λ c. search needs)
     (λ c κs. search needs)
     (λ c. search needs)
-    cross-requires-2
+    lead-in-form-requires-2
     (λ c. search needs)
     (λ c. search needs)
     (λ c κs. search needs)
     (λ c. search needs)
-    cross-requires-3
+    lead-in-form-requires-3
     (λ c. search needs)
     (λ c. search needs)
     (λ c κs. search needs)
     (λ c. search needs)
-    cross-requires-4
+    lead-in-form-requires-4
     (λ c. search needs)
     (λ c. search needs))

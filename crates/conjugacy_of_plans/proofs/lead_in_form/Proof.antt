@@ -3,15 +3,15 @@ use Prim.Native.Nat.{ℕ}
 use mathlib.Core.List.{List}
 use borrow.Author.Needs.{needs}
 use Rattle.conjugacy_of_parts.proofs.OutcomeLaws.{stops}
-use Rattle.conjugacy_of_plans.specs.Join.{Cores, LeadWord}
-use Rattle.conjugacy_of_plans.specs.JoinLaws.{word-stop, word-led, word-fits, word-given, word-formable}
-use Rattle.conjugacy_of_plans.specs.JoinLaws.{word-told}
-use Rattle.conjugacy_of_plans.proofs.cross.Statement.{statement}
-use Rattle.conjugacy_of_plans.proofs.cross.Tie as tie
+use Rattle.conjugacy_of_plans.specs.Join.{Cores, WordJoined}
+use Rattle.conjugacy_of_plans.specs.JoinLaws.{word-stop, word-joined, word-fits, word-given, word-formable}
+use Rattle.conjugacy_of_plans.specs.JoinLaws.{word-outcome}
+use Rattle.conjugacy_of_plans.proofs.lead_in_form.Statement.{statement}
+use Rattle.conjugacy_of_plans.proofs.lead_in_form.Tie as tie
 
 -- places on the way
 
-abbrev led : tie.After-way → tie.After-lead
+abbrev led : tie.After-way → tie.After-lead-in-word
 led q = q .before .before .before .before
 
 abbrev start : tie.After-way → tie.Start
@@ -19,13 +19,13 @@ start q = led q .before .before .before .before .before .before .before .before
 
 word : (q : tie.After-way) (k v w : List ℕ)
     → (let s = start q .args in
-    Cores k (s .conflicts .now) v w (s .x .now) (s .g .now) (s .y .now) (s .h .now) (s .commands)
-    → LeadWord k v w (led q .lead .last .1 .1 .1 .1 .1 .1 .0) (q .way .given .0 .0))
-word q k v w p = word-led k v w _ (led q .lead .ensures k v w p) (q .way .given .1)
+    Cores k (s .conflicts .now) v w (s .core1 .now) (s .lead1 .now) (s .core2 .now) (s .lead2 .now) (s .commands)
+    → WordJoined k v w (led q .lead-in-word .last .1 .1 .1 .1 .1 .1 .0) (q .way .given .0 .0))
+word q k v w p = word-joined k v w _ (led q .lead-in-word .ensures k v w p) (q .way .given .1)
 
 returns : tie.Need-returns
 returns c =
-    let a = c .before .before .before .lead in
+    let a = c .before .before .before .lead-in-word in
     λ k v w p.
     word-stop k v w (a .last .1 .1 .1 .1 .1 .1 .0) _ (a .result) (stops (a .result) (c .match .keys2))
     (a .ensures k v w p)
@@ -53,10 +53,10 @@ returns-2 c =
     let n = c .before .before in
     let q = n .before .before .before .before in
     λ k v w p.
-    word-told (p .plans) (word q k v w p) (n .form .ensures k (word-given (p .plans) (word q k v w p)))
+    word-outcome (p .plans) (word q k v w p) (n .form .ensures k (word-given (p .plans) (word q k v w p)))
 
-pub cross-spec : {M : Type 1} → statement M
-cross-spec =
+pub lead-in-form-spec : {M : Type 1} → statement M
+lead-in-form-spec =
     tie.close
     (tie.spec
     (λ c κs. search needs)

@@ -1,4 +1,4 @@
--- Passages from one core to another: none where they are the same, and else the lead-ins of their parts.
+-- Conjugators from one core to another: the empty word where they are the same, and else the lead-ins of their parts.
 use Prim.Native.Nat.{ℕ, zero, suc, _+_, _*_, _≤_}
 use native.Mathlib.Omega.{arith}
 use native.Mathlib.Nat.{mul-le-mul-right}
@@ -23,7 +23,7 @@ use Rattle.spec_laws.specs.CommandLaws.{isCommand-undone}
 use Rattle.spec.specs.Letters.{alphabet}
 use Rattle.spec_laws.specs.LettersLaws.{commands-range}
 use Rattle.conjugacy_ring.specs.Ring.{Cyclic}
-use Rattle.conjugacy_of_cores.specs.Pair.{Passage, CoresLed}
+use Rattle.conjugacy_of_cores.specs.Pair.{Conjugator, CoresJoined}
 
 -- nothing at all is short, for with no commands there are no letters
 none-short : (n l : ℕ) → (n ≡ 0 → l ≡ 0) → l ≤ (2 * n) * l
@@ -36,11 +36,11 @@ module _ {c : List ℕ} {conflicts : List (List ℕ)} {x : List ℕ} (k : Cyclic
   range : All (λ a. (1 ≤ commandOf a) × (commandOf a ≤ commands c)) x
   range = commands-range (commands c) x (k .few) (k .letters)
 
-  pub cores-same : {y : List ℕ} (row : List ℕ) (at : ℕ) → x ≡ y → CoresLed c x y row at row at
+  pub cores-same : {y : List ℕ} (row : List ℕ) (at : ℕ) → x ≡ y → CoresJoined c x y row at row at
   cores-same row at e = record {
     word = [];
-    passage = record {
-      leads = ≈-of-≡ (alphabet c) (conj-nil (alphabet c) x ∙ e);
+    conjugator = record {
+      conjugates = ≈-of-≡ (alphabet c) (conj-nil (alphabet c) x ∙ e);
       letters = tt;
       short = omega (arith, none-short (commands c) (length x) (none-occur (alphabet c) (commands c) x range));
     };
@@ -48,16 +48,16 @@ module _ {c : List ℕ} {conflicts : List (List ℕ)} {x : List ℕ} (k : Cyclic
     ends = omega arith;
   }
 
-  pub parts-passage : {y : List ℕ} → Cyclic c conflicts y → cores-joined? (alphabet c) x y ≡ true
-      → Passage c x y (parts-lead (alphabet c) (apexes (alphabet c) x) x y)
-  parts-passage {y} l t =
+  pub parts-conjugator : {y : List ℕ} → Cyclic c conflicts y → cores-joined? (alphabet c) x y ≡ true
+      → Conjugator c x y (parts-lead (alphabet c) (apexes (alphabet c) x) x y)
+  parts-conjugator {y} l t =
       let Γ = alphabet c in
       let u = parts-lead Γ (apexes Γ x) x y in
       let (f, p) = cores-true Γ x y t in
       let b = parts-lead-length Γ x y f (commands c) (all-occurs Γ (λ m. (1 ≤ m) × (m ≤ commands c)) x range)
       (apexes Γ x) (λ m o. o) p in
       record {
-        leads = cores-lead Γ x y t;
+        conjugates = cores-lead Γ x y t;
         letters = parts-lead-all Γ x y f (λ b. isCommand (commands c) b ≡ true)
             (λ b e. isCommand-undone (commands c) b ∙ e) (k .letters) (l .letters) (apexes Γ x) (λ m o. o);
         short = subst (λ m. length u + m ≤ (2 * commands c) * m) (sym (~-length Γ (apexes-~ Γ x))) b;

@@ -1,4 +1,4 @@
--- The room that the way across two cores needs.
+-- The room that the word from one plan to another needs in the row.
 use Prim.Native.Nat.{ℕ, _+_, _*_, _≤_}
 use native.Mathlib.Omega.{arith}
 use native.Mathlib.Nat.{mul-le-mul-right}
@@ -6,7 +6,7 @@ use mathlib.Core.List.{List}
 use lib.ListN.{length}
 use Rattle.spec_laws.specs.LettersLaws.{letters-length}
 use Rattle.conjugacy_of_plans.specs.StrippedLaws.{off-length}
-use Rattle.conjugacy_of_plans.specs.Join.{Cores, crossRoom}
+use Rattle.conjugacy_of_plans.specs.Join.{Cores, wordRoom}
 
 module _ {c : List ℕ} {conflicts : List (List ℕ)} {v w x g y h : List ℕ} {n : ℕ}
     (k : Cores c conflicts v w x g y h n) where
@@ -24,7 +24,7 @@ module _ {c : List ℕ} {conflicts : List (List ℕ)} {v w x g y h : List ℕ} {
     k .plans .second .short,
   )
 
-  pub cores-room : crossRoom n x g y h ≤ 49152
+  pub cores-room : wordRoom n x g y h ≤ 49152
   cores-room =
       let few : n ≤ 24 = omega (arith, k .plans .many, k .plans .first .few) in
       let a : n * all ≤ 24 * all = mul-le-mul-right all few in

@@ -8,10 +8,10 @@ use Rattle.array_row.specs.AreaLaws.{starts-fits, starts-count}
 use Rattle.piling_form.specs.Coring.{CoreOf}
 use Rattle.piling_form.specs.CoringLaws.{core-of}
 use Rattle.conjugacy_of_plans.specs.Join.{Plans, Cores}
-use Rattle.conjugacy_of_plans.specs.SpanLaws.{cores-room}
-use Rattle.conjugacy_of_plans.specs.CoresLaws.{stripped, off-count, off-fits}
-use Rattle.conjugacy_of_plans.proofs.join.Statement.{statement}
-use Rattle.conjugacy_of_plans.proofs.join.Tie as tie
+use Rattle.conjugacy_of_plans.specs.RoomLaws.{cores-room}
+use Rattle.conjugacy_of_plans.specs.CoresLaws.{core-of-stripped, lead-count, lead-fits}
+use Rattle.conjugacy_of_plans.proofs.join_plans.Statement.{statement}
+use Rattle.conjugacy_of_plans.proofs.join_plans.Tie as tie
 
 -- places on the way
 
@@ -44,7 +44,7 @@ cores : (o : tie.After-form-of2) (k : List ℕ) → Asked o k
     Cores k (s .conflicts .now) (s .v .now) (s .w .now) (take (r .result .form) (r .last .1 .1 .0))
     (take (r .result .lead) (r .last .1 .1 .1 .0)) (take (t .result .form) (t .last .1 .1 .0))
     (take (t .result .lead) (t .last .1 .1 .1 .0)) (s .commands))
-cores o k p = record { plans = p; first = stripped (one o k p); second = stripped (two o k p) }
+cores o k p = record { plans = p; first = core-of-stripped (one o k p); second = core-of-stripped (two o k p) }
 
 form-of-requires : tie.Need-form-of-requires
 form-of-requires c κs =
@@ -71,48 +71,48 @@ form-of-requires-2 c κs =
       },
     )
 
-array-share-prefix-x : tie.Need-array-share-prefix-x
-array-share-prefix-x c =
+array-share-prefix-core1 : tie.Need-array-share-prefix-core1
+array-share-prefix-core1 c =
     let o = c .before .before in
     starts-fits (one o (start o .pre .0) (start o .pre .1) .form)
 
-slice-aggregate-span : tie.Need-slice-aggregate-span
-slice-aggregate-span c =
+slice-aggregate-join-stripped : tie.Need-slice-aggregate-join-stripped
+slice-aggregate-join-stripped c =
     let o = c .before .before .before in
     starts-count (one o (start o .pre .0) (start o .pre .1) .form)
 
-array-share-prefix-g : tie.Need-array-share-prefix-g
-array-share-prefix-g c =
+array-share-prefix-lead1 : tie.Need-array-share-prefix-lead1
+array-share-prefix-lead1 c =
     let o = c .before .before .before in
-    off-fits (one o (start o .pre .0) (start o .pre .1))
+    lead-fits (one o (start o .pre .0) (start o .pre .1))
 
-slice-aggregate-span-2 : tie.Need-slice-aggregate-span-2
-slice-aggregate-span-2 c =
+slice-aggregate-join-stripped-2 : tie.Need-slice-aggregate-join-stripped-2
+slice-aggregate-join-stripped-2 c =
     let o = c .before .before .before .before in
-    off-count (one o (start o .pre .0) (start o .pre .1))
+    lead-count (one o (start o .pre .0) (start o .pre .1))
 
-array-share-prefix-y : tie.Need-array-share-prefix-y
-array-share-prefix-y c =
+array-share-prefix-core2 : tie.Need-array-share-prefix-core2
+array-share-prefix-core2 c =
     let o = c .before .before .before .before in
     starts-fits (two o (start o .pre .0) (start o .pre .1) .form)
 
-slice-aggregate-span-3 : tie.Need-slice-aggregate-span-3
-slice-aggregate-span-3 c =
+slice-aggregate-join-stripped-3 : tie.Need-slice-aggregate-join-stripped-3
+slice-aggregate-join-stripped-3 c =
     let o = c .before .before .before .before .before in
     starts-count (two o (start o .pre .0) (start o .pre .1) .form)
 
-array-share-prefix-h : tie.Need-array-share-prefix-h
-array-share-prefix-h c =
+array-share-prefix-lead2 : tie.Need-array-share-prefix-lead2
+array-share-prefix-lead2 c =
     let o = c .before .before .before .before .before in
-    off-fits (two o (start o .pre .0) (start o .pre .1))
+    lead-fits (two o (start o .pre .0) (start o .pre .1))
 
-slice-aggregate-span-4 : tie.Need-slice-aggregate-span-4
-slice-aggregate-span-4 c =
+slice-aggregate-join-stripped-4 : tie.Need-slice-aggregate-join-stripped-4
+slice-aggregate-join-stripped-4 c =
     let o = c .before .before .before .before .before .before in
-    off-count (two o (start o .pre .0) (start o .pre .1))
+    lead-count (two o (start o .pre .0) (start o .pre .1))
 
-span-requires : tie.Need-span-requires
-span-requires c κs =
+join-stripped-requires : tie.Need-join-stripped-requires
+join-stripped-requires c κs =
     let o = c .before .before .before .before .before .before .before in
     let (k, p, f) = start o .pre in
     (k, _, _, cores o k p, cores-room (cores o k p), f)
@@ -120,10 +120,10 @@ span-requires c κs =
 returns : tie.Need-returns
 returns c =
     let o = c .before .before .before .before .before .before .before .before .before .before in
-    λ k p. c .before .before .span .ensures k _ _ (cores o k p)
+    λ k p. c .before .before .join-stripped .ensures k _ _ (cores o k p)
 
-pub join-spec : {M : Type 1} → statement M
-join-spec =
+pub join-plans-spec : {M : Type 1} → statement M
+join-plans-spec =
     tie.close
     (tie.spec
     (λ c κs. search needs)
@@ -136,14 +136,14 @@ join-spec =
     (λ c. search needs)
     (λ c. search needs)
     form-of-requires-2
-    array-share-prefix-x
-    slice-aggregate-span
-    array-share-prefix-g
-    slice-aggregate-span-2
-    array-share-prefix-y
-    slice-aggregate-span-3
-    array-share-prefix-h
-    slice-aggregate-span-4
-    span-requires
+    array-share-prefix-core1
+    slice-aggregate-join-stripped
+    array-share-prefix-lead1
+    slice-aggregate-join-stripped-2
+    array-share-prefix-core2
+    slice-aggregate-join-stripped-3
+    array-share-prefix-lead2
+    slice-aggregate-join-stripped-4
+    join-stripped-requires
     (λ c. search needs)
     returns)

@@ -3,13 +3,13 @@ use Prim.Native.Nat.{ℕ}
 use mathlib.Core.List.{List}
 use native.Mathlib.Omega.{arith}
 use borrow.Author.Needs.{needs}
-use Rattle.conjugacy_of_cores.specs.Pair.{CoresLead, CoresLed}
+use Rattle.conjugacy_of_cores.specs.Pair.{CoresOutcome, CoresJoined}
 use Rattle.conjugacy_of_parts.proofs.OutcomeLaws.{stops}
 use Rattle.conjugacy_of_plans.specs.Join.{Cores}
-use Rattle.conjugacy_of_plans.specs.JoinLaws.{join-off, join-coreable, join-short, join-stop, join-word}
-use Rattle.conjugacy_of_plans.specs.JoinLaws.{cores-led}
-use Rattle.conjugacy_of_plans.proofs.lead.Statement.{statement}
-use Rattle.conjugacy_of_plans.proofs.lead.Tie as tie
+use Rattle.conjugacy_of_plans.specs.JoinLaws.{lead-room, join-coreable, join-short, join-stop, join-word}
+use Rattle.conjugacy_of_plans.specs.JoinLaws.{cores-joined}
+use Rattle.conjugacy_of_plans.proofs.lead_in_word.Statement.{statement}
+use Rattle.conjugacy_of_plans.proofs.lead_in_word.Tie as tie
 
 -- places on the way
 
@@ -26,26 +26,26 @@ led q = q .before .before .before .before
 abbrev Asked : tie.After-join-cores → List ℕ → List ℕ → List ℕ → Type 0
 Asked j k v w =
     let s = start j .args in
-    Cores k (s .conflicts .now) v w (s .x .now) (s .g .now) (s .y .now) (s .h .now) (s .commands)
+    Cores k (s .conflicts .now) v w (s .core1 .now) (s .lead1 .now) (s .core2 .now) (s .lead2 .now) (s .commands)
 
 -- what the way from core to core tells
 way : (j : tie.After-join-cores) (k v w : List ℕ) → Asked j k v w
     → (let s = start j .args in let a = begun j .append in
-    CoresLead k (s .x .now) (s .y .now) (a .last .0) (a .result) (j .join-cores .last .1 .1 .1 .1 .0)
+    CoresOutcome k (s .core1 .now) (s .core2 .now) (a .last .0) (a .result) (j .join-cores .last .1 .1 .1 .1 .0)
     (j .join-cores .result))
 way j k v w p =
     j .join-cores .ensures k (join-coreable p (start j .args .row .now) (start j .pre .4) (begun j .append .ensures))
 
 way-led : (q : tie.After-way) (k v w : List ℕ) → Asked (led q) k v w
     → (let j = led q in let s = start j .args in let a = begun j .append in
-    CoresLed k (s .x .now) (s .y .now) (a .last .0) (a .result) (j .join-cores .last .1 .1 .1 .1 .0)
+    CoresJoined k (s .core1 .now) (s .core2 .now) (a .last .0) (a .result) (j .join-cores .last .1 .1 .1 .1 .0)
     (q .way .given .0 .0))
-way-led q k v w p = cores-led k _ _ _ _ _ (way (led q) k v w p) (q .way .given .1)
+way-led q k v w p = cores-joined k _ _ _ _ _ (way (led q) k v w p) (q .way .given .1)
 
 append-requires : tie.Need-append-requires
 append-requires c κs =
     let s = c .before .before .before .before .before .before in
-    join-off (s .pre .3) (s .args .row .now) (s .pre .4)
+    lead-room (s .pre .3) (s .args .row .now) (s .pre .4)
 
 join-cores-requires : tie.Need-join-cores-requires
 join-cores-requires c κs =
@@ -79,11 +79,11 @@ returns-2 c =
     let r = start j .pre .4 in
     λ k v w p.
     let l = join-short p row r (a .ensures) (way-led q k v w p) in
-    join-word p (a .ensures) (omega (arith, a .ensures .ends, join-off p row r)) (way-led q k v w p)
+    join-word p (a .ensures) (omega (arith, a .ensures .ends, lead-room p row r)) (way-led q k v w p)
     (b .append-undone .ensures) (omega (arith, l, j .join-cores .kept .1 .1 .1 .1 .0, a .kept .0))
 
-pub lead-spec : {M : Type 1} → statement M
-lead-spec =
+pub lead-in-word-spec : {M : Type 1} → statement M
+lead-in-word-spec =
     tie.close
     (tie.spec
     append-requires

@@ -1,0 +1,70 @@
+-- What joining one part of two cores asks and gives. Its lead-in is written behind what stands in a row.
+use Prim.Native.Nat.{ℕ, _+_, _*_, _≤_}
+use mathlib.Core.Path.{_≡_}
+use mathlib.Core.Bool.{true, false}
+use mathlib.Core.List.{List, [], _++_}
+use lib.ListN.{length, take}
+use Rattle.spec.specs.Catalogue as Catalogue
+use Rattle.theory_words.specs.Group.{undo}
+use Rattle.spec.specs.Letters.{alphabet}
+use Rattle.theory_conjugacy.specs.AscendingLaws.{_∈_}
+use Rattle.theory_conjugacy.specs.Part.{commands, apexes, part}
+use Rattle.theory_conjugacy.specs.Rotation.{rotation}
+use Rattle.theory_conjugacy.specs.Decision.{rotated?, parts-joined?}
+use Rattle.theory_conjugacy.specs.LeadIn.{place, parts-lead}
+use Rattle.conjugacy_ring.specs.Ring.{Labelled}
+use Rattle.conjugacy_of_parts.specs.declared.Outcome.{Outcome}
+use Rattle.conjugacy_of_parts.specs.declared.Outcome.the-variants.{Joined, Apart, Unsettled}
+
+-- the letters cycled stand between two places, and behind them the row has room for the ring
+pub record RingsRoom (ring row : List ℕ) (from at : ℕ) : Type 0 where
+  pub ordered : from ≤ at
+  pub room : at + length ring ≤ length row
+
+-- the ring is a rotation of the other, and behind the first `at` bytes now stand, up to `end`, the ring up to the place
+-- at which they agree and the letters cycled, undone
+pub record RingsJoined (c ring other cycled before : List ℕ) (at : ℕ) (after : List ℕ) (end : ℕ) : Type 0 where
+  pub joined : rotated? (alphabet c) ring other ≡ true
+  pub written : take end after
+      ≡ take at before ++ (take (place (rotation (alphabet c) ring other)) ring ++ undo (alphabet c) cycled [])
+  pub ends : end ≡ at + length (take (place (rotation (alphabet c) ring other)) ring ++ undo (alphabet c) cycled [])
+
+-- what an outcome says of two rings: they are rotations of one another and the way is written, or they are none
+abbrev pub RingsOutcome : List ℕ → List ℕ → List ℕ → List ℕ → List ℕ → ℕ → List ℕ → Outcome → Type 0
+RingsOutcome c ring other cycled before at after (Joined end) = RingsJoined c ring other cycled before at after end
+RingsOutcome c ring other cycled before at after Apart = rotated? (alphabet c) ring other ≡ false
+RingsOutcome c ring other cycled before at after (Unsettled p) = ⊥
+
+-- two cores in which the same commands occur, and their labels
+pub record Two (c : List ℕ) (conflicts : List (List ℕ)) (core1 core2 labels : List ℕ) : Type 0 where
+  pub first : Labelled c conflicts core1 labels
+  pub second : Labelled c conflicts core2 labels
+  pub same : commands (alphabet c) core1 ≡ commands (alphabet c) core2
+
+-- one part: the apex is one of the first core, the rounds are as many as commands, and the row has room behind place
+-- `at` for what so many rounds cycle of both
+pub record Partable (c : List ℕ) (conflicts : List (List ℕ)) (core1 core2 labels : List ℕ) (apex rounds : ℕ)
+    (row : List ℕ) (at : ℕ) : Type 0 where
+  pub two : Two c conflicts core1 core2 labels
+  pub apical : apex ∈ apexes (alphabet c) core1
+  pub enough : rounds ≡ Catalogue.commands c
+  pub room : at + rounds * (length (part (alphabet c) apex core1) + length (part (alphabet c) apex core2))
+      ≤ length row
+
+-- the parts with these apexes are joined, and behind the first `at` bytes now stand their lead-ins, up to `end`
+pub record PartsJoined (c core1 core2 ms before : List ℕ) (at : ℕ) (after : List ℕ) (end : ℕ) : Type 0 where
+  pub joined : parts-joined? (alphabet c) ms core1 core2 ≡ true
+  pub written : take end after ≡ take at before ++ parts-lead (alphabet c) ms core1 core2
+  pub ends : end ≡ at + length (parts-lead (alphabet c) ms core1 core2)
+
+-- what an outcome says of the parts with these apexes; every part is settled by so many rounds
+abbrev pub PartsOutcome : List ℕ → List ℕ → List ℕ → List ℕ → List ℕ → ℕ → List ℕ → Outcome → Type 0
+PartsOutcome c x y ms before at after (Joined end) = PartsJoined c x y ms before at after end
+PartsOutcome c x y ms before at after Apart = parts-joined? (alphabet c) ms x y ≡ false
+PartsOutcome c x y ms before at after (Unsettled p) = ⊥
+
+-- an outcome that is no lead-in
+abbrev pub Stops : Outcome → Type 0
+Stops (Joined end) = ⊥
+Stops Apart = Unit {0}
+Stops (Unsettled p) = Unit {0}
