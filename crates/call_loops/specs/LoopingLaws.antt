@@ -20,7 +20,7 @@ use Rattle.input_checks.specs.Entry.{TwoPlans, twoLines, SameRefusal}
 use Rattle.input_checks.specs.EntryLaws.{entered-none, entered-some, entered-commands}
 use Rattle.spec.specs.Calls.{areaLine}
 use Rattle.spec.specs.Loops.{Looped, refuses, apart, joined, loopsLines, leadInRoom, unsettledLine}
-use Rattle.call_loops.specs.Looping.{toldOutcome}
+use Rattle.conjugacy_of_parts.specs.Outcomes.{toldOutcome}
 
 module _ {c v w : List ℕ} {rows : List (List ℕ)} {r : Checked} (d : TwoPlans c v w rows r) (area : List ℕ) where
   abbrev last : List (Option Line)

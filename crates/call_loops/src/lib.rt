@@ -5,7 +5,7 @@ ghost use mathlib.Core.Path.{_≡_};
 ghost use Rattle.spec.specs.Answers.{toldLoops};
 ghost use Rattle.spec.specs.Loops.{Looped};
 ghost use Rattle.input_checks.specs.Entry.{SameRefusal};
-ghost use Rattle.call_loops.specs.Looping.{toldOutcome};
+ghost use Rattle.conjugacy_of_parts.specs.Outcomes.{toldOutcome};
 use conjugacy_of_parts::Outcome;
 use input_catalogue::Checked;
 use spec::Loops;

@@ -22,7 +22,8 @@ use Rattle.theory_conjugacy.specs.LeadInLaws.{apical-part, parts-length}
 use Rattle.theory_conjugacy.specs.JoinLaws.{parts-lead-length}
 use Rattle.conjugacy_of_parts.specs.declared.Outcome.{Outcome}
 use Rattle.conjugacy_of_parts.specs.declared.Outcome.the-variants.{Joined, Apart, Unsettled}
-use Rattle.conjugacy_of_parts.specs.Parts.{PartsJoined, PartsOutcome, Stops}
+use Rattle.conjugacy_of_parts.specs.Outcomes.{Stops}
+use Rattle.conjugacy_of_parts.specs.Parts.{PartsJoined, PartsOutcome}
 use Rattle.conjugacy_of_cores.specs.Pair.{apexAt, partsOf, apexesFrom, Flagged, Placeable, Sofar}
 use Rattle.conjugacy_of_cores.specs.ApexLaws.{shares-append, joined-append, lead-append, apexes-from}
 

@@ -6,7 +6,7 @@ use denote.Enum.Declared.{tagOf}
 use types.Run.{OneOf}
 use Rattle.conjugacy_of_parts.specs.declared.Outcome.{Outcome}
 use Rattle.conjugacy_of_parts.specs.declared.Outcome.the-variants.{Joined, Apart, Unsettled}
-use Rattle.conjugacy_of_parts.specs.Parts.{Stops}
+use Rattle.conjugacy_of_parts.specs.Outcomes.{Stops}
 use Rattle.conjugacy_of_parts.proofs.Outcome.{the-type}
 
 pub stops : (o : Outcome) → OneOf (1 ∷ 2 ∷ []) (tagOf the-type o) → Stops o

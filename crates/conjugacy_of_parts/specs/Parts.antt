@@ -62,9 +62,3 @@ abbrev pub PartsOutcome : List ℕ → List ℕ → List ℕ → List ℕ → Li
 PartsOutcome c x y ms before at after (Joined end) = PartsJoined c x y ms before at after end
 PartsOutcome c x y ms before at after Apart = parts-joined? (alphabet c) ms x y ≡ false
 PartsOutcome c x y ms before at after (Unsettled p) = ⊥
-
--- an outcome that is no lead-in
-abbrev pub Stops : Outcome → Type 0
-Stops (Joined end) = ⊥
-Stops Apart = Unit {0}
-Stops (Unsettled p) = Unit {0}

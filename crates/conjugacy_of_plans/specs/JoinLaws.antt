@@ -22,7 +22,7 @@ use Rattle.array_row.specs.RowLaws.{appended-take, appended-length}
 use Rattle.conjugacy_ring.specs.Ring.{Cyclic}
 use Rattle.conjugacy_of_parts.specs.declared.Outcome.{Outcome}
 use Rattle.conjugacy_of_parts.specs.declared.Outcome.the-variants.{Joined, Apart, Unsettled}
-use Rattle.conjugacy_of_parts.specs.Parts.{Stops}
+use Rattle.conjugacy_of_parts.specs.Outcomes.{Stops}
 use Rattle.conjugacy_of_cores.specs.Pair.{Coreable, CoresJoined, CoresOutcome}
 use Rattle.input_checks.specs.Passed.{Passed}
 use Rattle.conjugacy_of_plans.specs.VerdictLaws.{through, through-count}

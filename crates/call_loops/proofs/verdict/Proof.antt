@@ -1,6 +1,6 @@
 -- `call_loops::verdict` meets its contract: each case as it is told. Assumes nothing.
 use mathlib.Core.Path.{sym, ap}
-use Rattle.call_loops.specs.Looping.{toldOutcome}
+use Rattle.conjugacy_of_parts.specs.Outcomes.{toldOutcome}
 use borrow.Author.Needs.{needs}
 use Rattle.call_loops.proofs.verdict.Statement.{statement}
 use Rattle.call_loops.proofs.verdict.Tie as tie
