@@ -2,8 +2,8 @@
 use Prim.Native.Nat.{ℕ, _+_, _-_, _<_, _≤_}
 use mathlib.Core.Path.{_≡_}
 use mathlib.Core.Logic.{_⊎_}
-use mathlib.Core.List.{List, [], _++_}
-use lib.ListN.{length, getD, drop, set}
+use mathlib.Core.List.{List, []}
+use lib.ListN.{length, getD, set}
 use Rattle.theory_words.specs.All.{All}
 use Rattle.input_conflicts.specs.Conflicts.{Conflicts}
 use Rattle.spec.specs.Byte.{commandOf}
