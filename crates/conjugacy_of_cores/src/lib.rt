@@ -1,4 +1,5 @@
-// The lead-in from one core to another: the lead-ins of their parts, one after the other.
+// Whether two cores are joined, and the lead-in from one to the other: the lead-ins of their parts, one after the
+// other, behind what stands in a row.
 
 use array_row::same_bytes;
 use conjugacy_of_parts::Outcome;
@@ -14,8 +15,8 @@ ghost use Rattle.theory_conjugacy.specs.Part.{apexes};
 ghost use Rattle.conjugacy_of_parts.specs.Parts.{PartsOutcome};
 ghost use Rattle.conjugacy_of_cores.specs.Pair.{apexAt, Flagged, Placeable, Coreable, CoresOutcome};
 
-// The lead-in of the part of command k + 1, if it occurs and is the apex of its part, behind the first bytes of the
-// row.
+// Whether the part of command k + 1 is joined, and its lead-in behind the first bytes of the row. A command that does
+// not occur or is not the apex of its part has nothing to join.
 fn join_at(
     core1: &[u8],
     core2: &[u8],
@@ -44,7 +45,7 @@ fn join_at(
     join_part(core1, core2, labels, labels[k], rounds, conflicts, row, at)
 }
 
-// The lead-ins of all parts, one after the other.
+// Whether all parts are joined, and their lead-ins, one after the other.
 fn join_parts(
     core1: &[u8],
     core2: &[u8],
@@ -77,8 +78,8 @@ fn join_parts(
     Outcome::Joined(end)
 }
 
-// The lead-in from one core to another, behind the first bytes of the row: none where they are the same. Cores in which
-// other commands occur are apart.
+// Whether two cores are joined, and the lead-in behind the first bytes of the row: none where they are the same. Cores
+// in which other commands occur are apart.
 pub fn join_cores(
     core1: &[u8],
     core2: &[u8],

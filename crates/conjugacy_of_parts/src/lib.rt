@@ -1,5 +1,6 @@
-// The lead-in from one part of a core to the same part of another: the letters that settling the first cycles, the ring
-// up to the place at which the rings agree, and the letters that settling the second cycles, undone.
+// Whether one part of a core is joined to the same part of another, and the lead-in between them: the letters that
+// settling the first cycles, the ring up to the place at which the rings agree, and the letters that settling the
+// second cycles, undone.
 
 use array_row::append_undone;
 use array_row::sheet;
@@ -21,9 +22,9 @@ pub enum Outcome {
     Unsettled(u8),
 }
 
-// The way from a ring to another, behind the first bytes of the row: the ring up to the place at which the rings
-// agree, and the letters cycled, undone. Those stand in the row up to `at`; the ring's letters are put behind them,
-// undone, and then all of it is undone where it stands.
+// Whether a ring is a rotation of another, and the way between them behind the first bytes of the row: the ring up to
+// the place at which they agree, and the letters cycled, undone. Those stand in the row up to `at`; the ring's letters
+// are put behind them, undone, and then all of it is undone where it stands.
 fn join_rings(ring: &[u8], other: &[u8], row: &mut [u8], from: usize, at: usize) -> Outcome
     requires { ⌜ RingsRoom (now ring) (now row) from at ⌝ }
     ensures { λ r. ⌜ ((c cycled : List ℕ) → take at (now (row .entry)) ≡ take from (now (row .entry)) ++ cycled
@@ -39,7 +40,8 @@ fn join_rings(ring: &[u8], other: &[u8], row: &mut [u8], from: usize, at: usize)
     Outcome::Joined(end)
 }
 
-// The lead-in from the first core's part with this apex to the second's, behind the first bytes of the row.
+// Whether the first core's part with this apex is joined to the second's, and the lead-in behind the first bytes of the
+// row.
 pub fn join_part(
     core1: &[u8],
     core2: &[u8],

@@ -1,5 +1,5 @@
--- The verdict on two words and the word that conjugates one to the other, from any words that swaps lead to from their
--- cores, and from any words that lead to those.
+-- Two words are joined exactly if words that swaps lead to from their cores are, and a conjugator between those gives
+-- one between the words.
 use Prim.Native.Nat.{_+_}
 use native.Mathlib.Omega.{arith}
 use mathlib.Core.Path.{_≡_, _∙_}
