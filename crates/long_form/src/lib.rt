@@ -79,14 +79,14 @@ pub fn reduce(
 fn ready(blanks: &[u16; 24]) -> usize
     ensures { λ r. ⌜ FirstReady (now (blanks .entry)) r ⌝ }
 {
-    let mut k = 0;
-    while k < 24 {
-        if blanks[k] == 0 {
-            return k;
+    let mut i = 0;
+    while i < 24 {
+        if blanks[i] == 0 {
+            return i;
         }
-        k += 1;
+        i += 1;
     }
-    k
+    i
 }
 
 // Reads the stacks off into the area: each time the top of the first stack that has a letter on top.

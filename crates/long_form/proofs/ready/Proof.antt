@@ -1,4 +1,4 @@
--- `long_form::ready` meets its contract. The loop's invariant: blanks are counted at each index below k. Assumes
+-- `long_form::ready` meets its contract. The loop's invariant: blanks are counted at each index below i. Assumes
 -- nothing.
 use Prim.Native.Nat.{ℕ, _-_, _≤_, _<_}
 use native.Mathlib.Omega.{arith}
@@ -9,10 +9,10 @@ use Rattle.long_form.proofs.ready.Statement.{statement}
 use Rattle.long_form.proofs.ready.Tie as tie
 
 abbrev Inv-loop : tie.InvT-loop
-Inv-loop blanks k₀ k = (k ≤ 24) × ((j : ℕ) → j < k → getD blanks j 0 ≡ 0 → ⊥)
+Inv-loop blanks i₀ i = (i ≤ 24) × ((j : ℕ) → j < i → getD blanks j 0 ≡ 0 → ⊥)
 
 abbrev μ-loop : tie.MeasureT-loop
-μ-loop blanks k₀ k = 24 - k
+μ-loop blanks i₀ i = 24 - i
 
 loop-holds : tie.Need-loop-holds Inv-loop μ-loop
 loop-holds c = (omega arith, λ j l. absurd (omega arith))
