@@ -24,4 +24,12 @@ returns c = λ k z r. put-piled r (c .lift .ensures)
 pub put-spec : {M : Type 1} → statement M
 put-spec =
     tie.close
-    (tie.spec (λ c. omega arith) (λ c. omega arith) cast-h lift-requires (λ c. omega arith) (λ c. omega arith) index-2-rows returns)
+    (tie.spec
+    (λ c. omega arith)
+    (λ c. omega arith)
+    cast-h
+    lift-requires
+    (λ c. omega arith)
+    (λ c. omega arith)
+    index-2-rows
+    returns)
