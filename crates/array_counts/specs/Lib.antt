@@ -1,5 +1,4 @@
 pub mod Blank
+pub mod BlankLaws
 pub mod Heights
 pub mod HeightsLaws
-pub mod BeadsLaws
-pub mod LineLaws

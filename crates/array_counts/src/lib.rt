@@ -1,23 +1,22 @@
-// Rows of beads and their heights as plain arrays: 24 rows of 1,024 bytes, 24 heights. What they stand for is the
-// matter of the crates above.
+// What is done with 24 numbers at a time, one for each command: heights of stacks, or counts.
 
 ghost use Prim.Native.Nat.{_+_, _-_, _≤_, _<_};
 ghost use mathlib.Core.Path.{_≡_};
-ghost use Rattle.array_counts.specs.Blank.{blankRows, blankHeights};
-ghost use Rattle.array_counts.specs.Heights.{Both, Changed};
+ghost use Rattle.array_counts.specs.Blank.{blankHeights, Ones};
+ghost use Rattle.array_counts.specs.Heights.{Both, Changed, without};
 
-// Rows with no bead.
-pub fn blank_rows() -> [[u8; 1024]; 24]
-    ensures { λ r. ⌜ r ≡ blankRows ⌝ }
-{
-    [[0; 1024]; 24]
-}
-
-// The heights of rows with no bead.
+// A zero in each place: the heights of empty stacks.
 pub fn blank_heights() -> [u16; 24]
     ensures { λ r. ⌜ r ≡ blankHeights ⌝ }
 {
     [0; 24]
+}
+
+// A one in each place.
+pub fn ones() -> [u16; 24]
+    ensures { λ r. ⌜ Ones r ⌝ }
+{
+    [1; 24]
 }
 
 // Each height plus the line's number there.
@@ -41,5 +40,17 @@ pub fn lower(heights: &mut [u16; 24], line: &[u16; 24])
     while j < 24 {
         heights[j] -= line[j];
         j += 1;
+    }
+}
+
+// Of zeros and ones, leaves a one only where the line has none.
+pub fn clear(free: &mut [u16; 24], line: &[u16; 24])
+    requires { ⌜ Both (λ f n. n ≤ 1) (now free) (now line) ⌝ }
+    ensures { λ r. ⌜ Changed without (now (line .entry)) (now (free .entry)) (now (free .exit)) ⌝ }
+{
+    let mut k = 0;
+    while k < 24 {
+        free[k] &= 1 - line[k];
+        k += 1;
     }
 }

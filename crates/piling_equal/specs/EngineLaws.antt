@@ -19,7 +19,8 @@ use Rattle.input_plan.specs.Lettered.{Lettered}
 use Rattle.piling_stacks.specs.Piling.{Piled}
 use Rattle.piling_stacks.specs.Pile.{Given, reduced}
 use Rattle.piling_stacks.specs.BlankLaws.{piled-blank}
-use Rattle.array_counts.specs.Blank.{blankRows, blankHeights}
+use Rattle.array_counts.specs.Blank.{blankHeights}
+use Rattle.piling_stacks.specs.Blank.{blankRows}
 use Rattle.input_checks.specs.Passed.{Passed}
 
 module _ {c : List ℕ} {conflicts : List (List ℕ)} {v : List ℕ} (p : Passed c conflicts v) where

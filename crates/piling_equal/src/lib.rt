@@ -13,7 +13,8 @@ ghost use mathlib.Core.Logic.{_↔_};
 ghost use Rattle.theory_words.specs.Group.{_≈_};
 ghost use Rattle.spec.specs.Letters.{alphabet, letters, normalForm};
 ghost use Rattle.piling_equal.specs.Comparing.{Undoable, Undone, Opposed};
-ghost use Rattle.array_counts.specs.Blank.{blankRows, blankHeights};
+ghost use Rattle.array_counts.specs.Blank.{blankHeights};
+ghost use Rattle.piling_stacks.specs.Blank.{blankRows};
 ghost use Rattle.input_checks.specs.Passed.{Passed};
 
 // Whether two plans have the same normal form: v is piled up in rows with no bead, and w is undone on it. The rows are
@@ -43,7 +44,7 @@ pub fn equal(v: &[u8], w: &[u8], conflicts: &[[u16; 24]; 24]) -> bool
         → Passed c (now (conflicts .entry)) (now (w .entry))
         → (r ≡ true) ↔ (normalForm c (now (v .entry)) ≡ normalForm c (now (w .entry)))) ⌝ }
 {
-    let mut rows = array_counts::blank_rows();
+    let mut rows = piling_stacks::blank_rows();
     let mut heights = array_counts::blank_heights();
     if w.len() < v.len() {
         return same(w, v, conflicts, &mut rows, &mut heights);

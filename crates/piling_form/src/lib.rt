@@ -54,7 +54,7 @@ pub fn form_of(
         → FormOf c (now (plan .entry)) (now (area .entry)) (now (lead .entry)) cored (now (area .exit))
         (now (lead .exit)) (r .form) (r .lead)) ⌝ }
 {
-    let mut rows = array_counts::blank_rows();
+    let mut rows = piling_stacks::blank_rows();
     let mut heights = array_counts::blank_heights();
     piling_stacks::pile(plan, conflicts, &mut rows, &mut heights);
     let mut bottoms = array_counts::blank_heights();

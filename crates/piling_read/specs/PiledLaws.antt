@@ -10,11 +10,11 @@ use Rattle.theory_words.specs.StackLaws.{stack-read}
 use Rattle.spec.specs.Letters.{alphabet}
 use Rattle.input_plan.specs.Lettered.{Lettered}
 use Rattle.array_counts.specs.Blank.{blankHeights}
-use Rattle.array_counts.specs.BeadsLaws.{beads-fit}
+use Rattle.array_counts.specs.BlankLaws.{blank-zero, blank-many}
 use Rattle.piling_stacks.specs.Piling.{Piled}
+use Rattle.piling_stacks.specs.BeadsLaws.{beads-fit}
 use Rattle.piling_stacks.specs.PilingLaws.{piled-beads}
 use Rattle.piling_read.specs.Reading.{Left}
-use Rattle.piling_read.specs.BlankLaws.{blank-zero, blank-many}
 
 module _ {c : List ℕ} {rows : List (List ℕ)} {heights z : List ℕ} (p : Piled c rows heights z)
     (h : All Lettered z) where

@@ -10,11 +10,11 @@ use lib.ListN.{length, getD}
 use Rattle.spec.specs.Conflict.{conflict}
 use Rattle.input_conflicts.specs.Conflicts.{bit, Conflicts}
 use Rattle.spec.specs.AlphabetLaws.{conflict-refl, conflict-sym}
-use Rattle.array_counts.specs.Blank.{blankHeights}
-use Rattle.array_counts.specs.Heights.{Both, Changed}
+use Rattle.array_counts.specs.Blank.{blankHeights, Ones}
+use Rattle.array_counts.specs.BlankLaws.{blank-zero, blank-many}
+use Rattle.array_counts.specs.Heights.{Both, Changed, without}
 use Rattle.piling_read.specs.Reading.{Passed, FirstReady}
-use Rattle.piling_read.specs.Starts.{Ones, without, Starts}
-use Rattle.piling_read.specs.BlankLaws.{blank-zero, blank-many}
+use Rattle.piling_read.specs.Starts.{Starts}
 
 without-left : (f n : ℕ) → without f n ≤ f
 unfolding without

@@ -1,31 +1,11 @@
 // Reading a piling: the letters in order, taken off the bottoms of its stacks.
 
-ghost use Prim.Native.Nat.{ℕ, _≤_};
+ghost use Prim.Native.Nat.{ℕ};
 ghost use mathlib.Core.List.{List};
 ghost use Rattle.input_conflicts.specs.Conflicts.{Conflicts};
 ghost use Rattle.array_row.specs.Area.{ReadOff};
-ghost use Rattle.array_counts.specs.Heights.{Both, Changed};
 ghost use Rattle.piling_read.specs.Reading.{Room, Passed, FirstReady, Readable};
-ghost use Rattle.piling_read.specs.Starts.{Ones, without, Starts};
-
-// A one in each place.
-fn ones() -> [u16; 24]
-    ensures { λ r. ⌜ Ones r ⌝ }
-{
-    [1; 24]
-}
-
-// Leaves a one only where the line has none.
-fn clear(free: &mut [u16; 24], line: &[u16; 24])
-    requires { ⌜ Both (λ f n. n ≤ 1) (now free) (now line) ⌝ }
-    ensures { λ r. ⌜ Changed without (now (line .entry)) (now (free .entry)) (now (free .exit)) ⌝ }
-{
-    let mut i = 0;
-    while i < 24 {
-        free[i] &= 1 - line[i];
-        i += 1;
-    }
-}
+ghost use Rattle.piling_read.specs.Starts.{Starts};
 
 // For each row how many rows come before the first one that conflicts with it.
 fn starts(conflicts: &[[u16; 24]; 24]) -> [u16; 24]
@@ -33,10 +13,10 @@ fn starts(conflicts: &[[u16; 24]; 24]) -> [u16; 24]
     ensures { λ r. ⌜ Starts (now (conflicts .entry)) r ⌝ }
 {
     let mut counts = array_counts::blank_heights();
-    let mut free = ones();
+    let mut free = array_counts::ones();
     let mut j = 0;
     while j < 24 {
-        clear(&mut free, &conflicts[j]);
+        array_counts::clear(&mut free, &conflicts[j]);
         array_counts::lift(&mut counts, &free);
         j += 1;
     }

@@ -4,11 +4,12 @@ use native.Mathlib.Omega.{arith}
 use native.Mathlib.Numerals.{add-one}
 use native.Mathlib.Nat.{eq-or-lt-of-le, add-zero, sub-zero}
 use mathlib.Core.Logic.{_⊎_, inl, inr}
-use mathlib.Core.Path.{_≡_, refl, sym, _∙_, ap, subst}
+use mathlib.Core.Path.{_≡_, sym, _∙_, ap, subst}
 use mathlib.Core.List.{List, [], _∷_, _++_, append-nil}
 use lib.ListN.{length, getD, take, set, length-set, length-append, length-take}
 use lib.Seq.{getD-set-same, getD-set-other, set-getD, take-set-le, take-suc-set}
 use lib.Seq.{take-suc, take-take, take-at, getD-take, getD-at}
+use Rattle.piling_stacks.specs.MeetsLaws.{Meets, aside, own, other}
 
 -- the stack s, bottom first, stands in the row, and nothing above it
 pub record Beads (row : List ℕ) (h : ℕ) (s : List ℕ) : Type 0 where
@@ -74,22 +75,6 @@ beads-split {row} {s} {h} l r =
     take-suc row (h - 1) 0 (omega (arith, beads-fit r, r .wide)) in
     let f : h ≡ suc (h - 1) = omega arith in
     sym (r .stack) ∙ ap (λ (n : ℕ). take n row) f ∙ e
-
--- what a letter b of command k + 1 puts on the stack of command i + 1: the number of beads, and the beads
-pub data Meets (k b : ℕ) : ℕ → ℕ → List ℕ → Type 0 where
-  aside : {i : ℕ} → ¬ (i ≡ k) → Meets k b i 0 []
-  own : Meets k b k 1 (b ∷ [])
-  other : {i : ℕ} → ¬ (i ≡ k) → Meets k b i 1 (0 ∷ [])
-
-pub meets-length : {k b i n : ℕ} {m : List ℕ} → Meets k b i n m → length m ≡ n
-meets-length (aside o) = refl
-meets-length own = refl
-meets-length (other o) = refl
-
-pub meets-one : {k b i n : ℕ} {m : List ℕ} → Meets k b i n m → n ≤ 1
-meets-one (aside o) = omega arith
-meets-one own = omega arith
-meets-one (other o) = omega arith
 
 -- the rows with bead b written at place h of row k
 abbrev pub written : List (List ℕ) → ℕ → ℕ → ℕ → List (List ℕ)

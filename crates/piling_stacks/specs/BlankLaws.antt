@@ -6,8 +6,9 @@ use mathlib.Core.List.{List, []}
 use lib.ListN.{getD, replicate, length-replicate, getD-replicate}
 use Rattle.theory_words.specs.Stack.{proj}
 use Rattle.piling_stacks.specs.Piling.{Piled}
-use Rattle.array_counts.specs.Blank.{blankRows, blankHeights}
-use Rattle.array_counts.specs.BeadsLaws.{Beads}
+use Rattle.array_counts.specs.Blank.{blankHeights}
+use Rattle.piling_stacks.specs.Blank.{blankRows}
+use Rattle.piling_stacks.specs.BeadsLaws.{Beads}
 use Rattle.piling_stacks.specs.PilingLaws.{beads-piled}
 
 abbrev zeros : ℕ → List ℕ

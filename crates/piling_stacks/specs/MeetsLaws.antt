@@ -1,9 +1,11 @@
--- What a letter of command k + 1 puts on the stack of command j + 1, and how many beads that are.
-use Prim.Native.Nat.{ℕ, _+_}
+-- What a letter puts on the stack of each command: its byte on its own, a blank on those that conflict with it, and
+-- nothing on the others. The line of its conflicts tells how many beads that are.
+use Prim.Native.Nat.{ℕ, _+_, _≤_}
 use native.Mathlib.Omega.{arith}
 use mathlib.Core.Bool.{Bool, true, false, true≢false}
-use mathlib.Core.Path.{_≡_, sym, _∙_, ap}
-use mathlib.Core.List.{List}
+use mathlib.Core.Path.{_≡_, refl, sym, _∙_, ap}
+use mathlib.Core.List.{List, [], _∷_}
+use lib.ListN.{length}
 use Rattle.theory_words.specs.Stack.{mark}
 use Rattle.theory_words.specs.StackLaws.{Marked, marked}
 use Rattle.theory_words.specs.StackLaws as Stack
@@ -12,7 +14,22 @@ use Rattle.input_conflicts.specs.Conflicts.{bit}
 use Rattle.spec.specs.AlphabetLaws.{conflict-refl, conflict-sym}
 use Rattle.spec.specs.Byte.{commandOf}
 use Rattle.spec.specs.Letters.{alphabet}
-use Rattle.array_counts.specs.BeadsLaws.{Meets, aside, own, other}
+
+-- what a letter b of command k + 1 puts on the stack of command i + 1: the number of beads, and the beads
+pub data Meets (k b : ℕ) : ℕ → ℕ → List ℕ → Type 0 where
+  aside : {i : ℕ} → ¬ (i ≡ k) → Meets k b i 0 []
+  own : Meets k b k 1 (b ∷ [])
+  other : {i : ℕ} → ¬ (i ≡ k) → Meets k b i 1 (0 ∷ [])
+
+pub meets-length : {k b i n : ℕ} {m : List ℕ} → Meets k b i n m → length m ≡ n
+meets-length (aside o) = refl
+meets-length own = refl
+meets-length (other o) = refl
+
+pub meets-one : {k b i n : ℕ} {m : List ℕ} → Meets k b i n m → n ≤ 1
+meets-one (aside o) = omega arith
+meets-one own = omega arith
+meets-one (other o) = omega arith
 
 -- the line of command k + 1 tells how many
 pub meets-line : (c : List ℕ) (k b j n : ℕ) → commandOf b ≡ k + 1 → n ≡ bit (conflict c (k + 1) (j + 1))

@@ -15,9 +15,8 @@ use Rattle.spec.specs.AlphabetLaws.{command-undone}
 use Rattle.spec.specs.Letters.{alphabet}
 use Rattle.piling_stacks.specs.Piling.{Piled, Counted}
 use Rattle.array_counts.specs.Heights.{Both, Changed}
-use Rattle.array_counts.specs.BeadsLaws.{Beads, Meets, written, beads-split, beads-top, meets-add, meets-off}
-use Rattle.array_counts.specs.BeadsLaws.{beads-fit, meets-length, meets-one}
-use Rattle.array_counts.specs.LineLaws.{meets-line}
+use Rattle.piling_stacks.specs.BeadsLaws.{Beads, written, beads-fit, beads-split, beads-top, meets-add, meets-off}
+use Rattle.piling_stacks.specs.MeetsLaws.{Meets, meets-line, meets-length, meets-one}
 use Rattle.piling_stacks.specs.Push.{Facing, Ready, Cancelled}
 
 -- the stack of command i + 1, bottom first

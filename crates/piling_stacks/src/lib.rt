@@ -10,9 +10,17 @@ ghost use lib.ListN.{length};
 ghost use Rattle.theory_words.specs.Reduce.{act};
 ghost use Rattle.spec.specs.Byte.{commandOf, undone};
 ghost use Rattle.spec.specs.Letters.{alphabet};
+ghost use Rattle.piling_stacks.specs.Blank.{blankRows};
 ghost use Rattle.piling_stacks.specs.Piling.{Piled, Counted};
 ghost use Rattle.piling_stacks.specs.Push.{Facing, Ready, Cancelled};
 ghost use Rattle.piling_stacks.specs.Pile.{Given, reduced};
+
+// Rows with no bead.
+pub fn blank_rows() -> [[u8; 1024]; 24]
+    ensures { λ r. ⌜ r ≡ blankRows ⌝ }
+{
+    [[0; 1024]; 24]
+}
 
 // The undo of a byte of some command: input_plan::undo less its tests for 0 and 128, in the loop over a plan's letters.
 pub fn opposite(letter: u8) -> u8

@@ -1,16 +1,16 @@
--- `piling_read::clear` meets its contract: below i the places are cleared, from i on they are as they were.
+-- `array_counts::clear` meets its contract: below k the places are cleared, from k on they are as they were.
 use Prim.Native.Nat.{_-_}
 use native.Mathlib.Omega.{arith}
 use Rattle.array_counts.specs.HeightsLaws.{Changing, changing-start, changing-again, changing-end}
-use Rattle.piling_read.specs.Starts.{without}
-use Rattle.piling_read.proofs.clear.Statement.{statement}
-use Rattle.piling_read.proofs.clear.Tie as tie
+use Rattle.array_counts.specs.Heights.{without}
+use Rattle.array_counts.proofs.clear.Statement.{statement}
+use Rattle.array_counts.proofs.clear.Tie as tie
 
 abbrev Inv-loop : tie.InvT-loop
-Inv-loop free₀ line i₀ free i = Changing without line free₀ free i
+Inv-loop free₀ line k₀ free k = Changing without line free₀ free k
 
 abbrev μ-loop : tie.MeasureT-loop
-μ-loop free₀ line i₀ free i = 24 - i
+μ-loop free₀ line k₀ free k = 24 - k
 
 loop-holds : tie.Need-loop-holds Inv-loop μ-loop
 loop-holds c = changing-start without
@@ -18,7 +18,7 @@ loop-holds c = changing-start without
 sub-free : tie.Need-sub-free Inv-loop μ-loop
 sub-free c =
     let t = c .before .before in
-    omega (arith, t .before .pre .holds (t .loop .i) (omega arith))
+    omega (arith, t .before .pre .holds (t .loop .k) (omega arith))
 
 loop-again : tie.Need-loop-again Inv-loop μ-loop
 unfolding without

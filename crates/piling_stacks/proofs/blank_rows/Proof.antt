@@ -1,8 +1,8 @@
--- `array_counts::blank_rows` meets its contract, by computation.
+-- `piling_stacks::blank_rows` meets its contract, by computation.
 use mathlib.Core.Path.{refl}
-use Rattle.array_counts.specs.Blank.{blankRows}
-use Rattle.array_counts.proofs.blank_rows.Statement.{statement}
-use Rattle.array_counts.proofs.blank_rows.Tie as tie
+use Rattle.piling_stacks.specs.Blank.{blankRows}
+use Rattle.piling_stacks.proofs.blank_rows.Statement.{statement}
+use Rattle.piling_stacks.proofs.blank_rows.Tie as tie
 
 returns : tie.Need-returns
 unfolding blankRows
