@@ -1,4 +1,6 @@
 pub mod Blank
 pub mod BlankLaws
+pub mod First
+pub mod FirstLaws
 pub mod Heights
 pub mod HeightsLaws

@@ -1,4 +1,5 @@
-// What is done with 24 numbers at a time, one for each command: heights of stacks, or counts.
+// What is done with 24 numbers at a time, one for each command: heights of stacks, or counts. Its specs also say what
+// the first of 24 with a property is.
 
 ghost use Prim.Native.Nat.{_+_, _-_, _≤_, _<_};
 ghost use mathlib.Core.Path.{_≡_};

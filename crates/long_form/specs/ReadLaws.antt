@@ -14,6 +14,7 @@ use Rattle.theory_words.specs.Normal.{lex}
 use Rattle.theory_words.specs.NormalLaws.{Least, lex-pick}
 use Rattle.theory_words.specs.WritingLaws.{take-more, drop-more}
 use Rattle.input_conflicts.specs.Conflicts.{Conflicts}
+use Rattle.array_counts.specs.First.{FirstWith}
 use Rattle.array_row.specs.Area.{ReadOff}
 use Rattle.spec.specs.Byte.{commandOf}
 use Rattle.spec.specs.Letters.{alphabet}
@@ -21,10 +22,10 @@ use Rattle.input_plan.specs.Lettered.{Lettered}
 use Rattle.long_stacks.specs.Runs.{Stacks}
 use Rattle.long_stacks.specs.Moves.{Cuttable, Cut}
 use Rattle.long_stacks.specs.StacksLaws.{Lined, stacks-topped, stacks-first, first-stacks, stacks-cuttable, stacks-cut}
-use Rattle.long_form.specs.Reading.{FirstReady, Readable}
+use Rattle.long_form.specs.Reading.{LetterOnTop, Readable}
 
 module _ {c word under link tops blanks y : List ℕ} (s : Stacks c word under link tops blanks 0 y) {k : ℕ}
-    (f : FirstReady blanks k) where
+    (f : FirstWith (LetterOnTop blanks) k) where
   -- the first index that is ready is that of the smallest command of all that can come first
   ready-least : (d : ℕ) → First (alphabet c) d y → k + 1 ≤ commandOf d
   ready-least d o = go (decLt (commandOf d - 1) k)
@@ -54,7 +55,7 @@ abbrev pub topAt : List ℕ → List ℕ → ℕ → ℕ
 topAt word tops k = getD word (getD tops k 0 - 1) 0
 
 module _ {c word under link x before tops blanks area : List ℕ} {l : ℕ} {y : List ℕ}
-    (g : Going c word under link x before tops blanks area l y) {k : ℕ} (f : FirstReady blanks k) where
+    (g : Going c word under link x before tops blanks area l y) {k : ℕ} (f : FirstWith (LetterOnTop blanks) k) where
   going-end : 24 ≤ k → ReadOff c x before area l
   unfolding lex
   going-end h =
@@ -104,13 +105,13 @@ pub record Underway (conflicts : List (List ℕ)) (word under link tops₀ blank
     (tops blanks area : List ℕ) (l k : ℕ) : Type 0 where
   pub some : (c : List ℕ) × (x : List ℕ) × Readable c conflicts word under link tops₀ blanks₀ x before
   pub long : length area ≡ length before
-  pub first : FirstReady blanks k
+  pub first : FirstWith (LetterOnTop blanks) k
   pub going : (c x : List ℕ) → Readable c conflicts word under link tops₀ blanks₀ x before
       → (y : List ℕ) × Going c word under link x before tops blanks area l y
 
 pub underway-start : {conflicts : List (List ℕ)} {word under link tops blanks area : List ℕ} {k : ℕ}
     → (c : List ℕ) × (x : List ℕ) × Readable c conflicts word under link tops blanks x area
-    → FirstReady blanks k → Underway conflicts word under link tops blanks area tops blanks area 0 k
+    → FirstWith (LetterOnTop blanks) k → Underway conflicts word under link tops blanks area tops blanks area 0 k
 underway-start some f = record {
   some = some;
   long = refl;
@@ -126,7 +127,7 @@ module _ {conflicts : List (List ℕ)} {word under link tops₀ blanks₀ before
 
   module _ (h : k < 24) where
     pub underway-again : {tops′ blanks′ : List ℕ} {next : ℕ}
-        → Cut under link tops blanks (getD conflicts k []) k tops′ blanks′ → FirstReady blanks′ next
+        → Cut under link tops blanks (getD conflicts k []) k tops′ blanks′ → FirstWith (LetterOnTop blanks′) next
         → Underway conflicts word under link tops₀ blanks₀ before tops′ blanks′
         (set area l (topAt word tops k)) (l + 1) next
     underway-again u f = record {

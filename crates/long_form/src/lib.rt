@@ -6,11 +6,12 @@
 use long_stacks::cut;
 ghost use Prim.Native.Nat.{ℕ, _+_};
 ghost use mathlib.Core.List.{List};
+ghost use Rattle.array_counts.specs.First.{FirstWith};
 ghost use Rattle.array_row.specs.Area.{StartsWith, ReadOff};
 ghost use Rattle.spec.specs.Letters.{normalForm};
 ghost use Rattle.long_form.specs.Reducing.{Given, Reducing};
 ghost use Rattle.long_form.specs.Form.{Room};
-ghost use Rattle.long_form.specs.Reading.{FirstReady, Readable};
+ghost use Rattle.long_form.specs.Reading.{LetterOnTop, Readable};
 use input_plan::undo;
 use long_stacks::put;
 ghost use lib.ListN.{length};
@@ -75,9 +76,9 @@ pub fn reduce(
     }
 }
 
-// The first index at which no blank is counted, or 24 where there is none.
+// The index of the first stack with a letter on top, or 24 where there is none.
 fn ready(blanks: &[u16; 24]) -> usize
-    ensures { λ r. ⌜ FirstReady (now (blanks .entry)) r ⌝ }
+    ensures { λ r. ⌜ FirstWith (LetterOnTop (now (blanks .entry))) r ⌝ }
 {
     let mut i = 0;
     while i < 24 {
@@ -86,7 +87,7 @@ fn ready(blanks: &[u16; 24]) -> usize
         }
         i += 1;
     }
-    i
+    24
 }
 
 // Reads the stacks off into the area: each time the top of the first stack that has a letter on top.

@@ -24,9 +24,10 @@ use Rattle.spec.specs.AlphabetLaws.{command-undone}
 use Rattle.spec.specs.Letters.{alphabet}
 use Rattle.input_plan.specs.Lettered.{Lettered}
 use Rattle.input_plan.specs.LetteredLaws.{lettered-filler}
+use Rattle.array_counts.specs.First.{FirstWith}
 use Rattle.piling_read.specs.Reading.{lowest, beadsLeft, Left}
 use Rattle.piling_read.specs.LeftLaws.{line-count, left-shows}
-use Rattle.piling_core.specs.Peeling.{Pair, FirstPair, Movable, Moved}
+use Rattle.piling_core.specs.Peeling.{Pair, Movable, Moved}
 use Rattle.piling_core.specs.SliceLaws.{slice-snoc, slice-inner, slice-ends}
 
 -- the stack of command k in a word, and what a letter puts on it
@@ -109,7 +110,7 @@ module _ {rows : List (List ℕ)} {heights c at y : List ℕ} (e : Left rows hei
       b (undone b) (stack c (commandOf b) s) g in
       record { two = h; letter = λ z. lettered-filler t (sym i ∙ z); undo = j ∙ ap undone (sym i) }
 
-  pub no-pair-tight : {k : ℕ} → FirstPair rows heights at k → 24 ≤ k → Tight (alphabet c) y
+  pub no-pair-tight : {k : ℕ} → FirstWith (Pair rows heights at) k → 24 ≤ k → Tight (alphabet c) y
   no-pair-tight f h b r p (q, o) =
       let t : Lettered b = all-pick (alphabet c) Lettered p (e .letters) .0 in
       let w : Peels (alphabet c) b y (undo (alphabet c) q []) = off p (pick-undo (alphabet c) r o) in

@@ -11,8 +11,9 @@ use Rattle.theory_conjugacy.specs.Core.{Cores, bare}
 use Rattle.theory_conjugacy.specs.CoreLaws.{peels-length, peels-cores}
 use Rattle.input_conflicts.specs.Conflicts.{Conflicts}
 use Rattle.spec.specs.Letters.{alphabet}
+use Rattle.array_counts.specs.First.{FirstWith}
 use Rattle.piling_read.specs.Reading.{lowest, Room, Left}
-use Rattle.piling_core.specs.Peeling.{FirstPair, Movable, Moved, Peelable, Peeled}
+use Rattle.piling_core.specs.Peeling.{Pair, Movable, Moved, Peelable, Peeled}
 use Rattle.piling_core.specs.EndLaws.{pair-peels, no-pair-tight, peels-movable, peels-left}
 
 pub record Going (c : List ℕ) (rows : List (List ℕ)) (x before heights at lead : List ℕ) (l : ℕ) (y : List ℕ)
@@ -25,7 +26,7 @@ pub record Going (c : List ℕ) (rows : List (List ℕ)) (x before heights at le
 
 module _ {c : List ℕ} {rows : List (List ℕ)} {x before heights at lead : List ℕ} {l : ℕ} {y : List ℕ}
     (g : Going c rows x before heights at lead l y) where
-  pub going-end : {k : ℕ} → FirstPair rows heights at k → 24 ≤ k → Peeled c rows x before heights at lead l y
+  pub going-end : {k : ℕ} → FirstWith (Pair rows heights at) k → 24 ≤ k → Peeled c rows x before heights at lead l y
   going-end f h = record {
     left = g .left;
     cores = subst (λ (u : List ℕ). Cores (alphabet c) x u y) (append-nil (take l lead))
@@ -34,7 +35,7 @@ module _ {c : List ℕ} {rows : List (List ℕ)} {x before heights at lead : Lis
     kept = g .kept;
   }
 
-  module _ {k : ℕ} (f : FirstPair rows heights at k) (h : k < 24) where
+  module _ {k : ℕ} (f : FirstWith (Pair rows heights at) k) (h : k < 24) where
     pub going-fits : length x ≤ 2 * length before → l < length lead
     going-fits o =
         let (m, (s, w)) = pair-peels (g .left) k h (f .found h) in
@@ -64,11 +65,11 @@ module _ {c : List ℕ} {rows : List (List ℕ)} {x before heights at lead : Lis
 -- the loop's state, for every catalogue and word that the arrays stand for
 pub record Taken (conflicts rows : List (List ℕ)) (heights₀ at₀ before heights at lead : List ℕ) (l k : ℕ)
     : Type 0 where
-  pub first : FirstPair rows heights at k
+  pub first : FirstWith (Pair rows heights at) k
   pub going : (c x : List ℕ) → Peelable c conflicts rows heights₀ at₀ x before
       → (y : List ℕ) × Going c rows x before heights at lead l y
 
-pub taken-start : {conflicts rows : List (List ℕ)} {heights at lead : List ℕ} {k : ℕ} → FirstPair rows heights at k
+pub taken-start : {conflicts rows : List (List ℕ)} {heights at lead : List ℕ} {k : ℕ} → FirstWith (Pair rows heights at) k
     → Taken conflicts rows heights at lead heights at lead 0 k
 taken-start f = record {
   first = f;
@@ -87,7 +88,7 @@ module _ {conflicts rows : List (List ℕ)} {heights₀ at₀ before heights at 
 
   module _ (h : k < 24) where
     pub taken-again : {down up : List ℕ} {next : ℕ} → Moved (getD conflicts k []) heights at down up
-        → FirstPair rows down up next
+        → FirstWith (Pair rows down up) next
         → Taken conflicts rows heights₀ at₀ before down up (set lead l (lowest rows at k)) (l + 1) next
     taken-again d f = record {
       first = f;

@@ -21,12 +21,6 @@ module _ (rows : List (List ℕ)) (heights at : List ℕ) where
   abbrev pub Pair : ℕ → Type 0
   Pair i = Ends (getD rows i []) (getD heights i 0) (getD at i 0)
 
-  -- k is the first row with a pair, or 24 where none has one
-  pub record FirstPair (k : ℕ) : Type 0 where
-    pub within : k ≤ 24
-    pub before : (i : ℕ) → i < k → Pair i → ⊥
-    pub found : k < 24 → Pair k
-
 -- every bottom can move up, and every height down, by the line's number
 abbrev pub Movable : List ℕ → List ℕ → List ℕ → Type 0
 Movable line heights at = Both (λ h n. n ≤ h) heights line × Both (λ h n. h + n < 65536) at line

@@ -10,8 +10,9 @@ ghost use mathlib.Core.Bool.{true};
 ghost use mathlib.Core.List.{List};
 ghost use mathlib.Core.Logic.{_↔_};
 ghost use lib.ListN.{length};
+ghost use Rattle.array_counts.specs.First.{FirstWith};
 ghost use Rattle.piling_read.specs.Reading.{Room};
-ghost use Rattle.piling_core.specs.Peeling.{Ends, FirstPair, Movable, Moved, Peelable, Peeled};
+ghost use Rattle.piling_core.specs.Peeling.{Ends, Pair, Movable, Moved, Peelable, Peeled};
 
 // Whether of the beads from `at` up to `height` the lowest is a letter and the highest, another bead, is its undo.
 fn ends(row: &[u8; 1024], height: u16, at: u16) -> bool
@@ -30,7 +31,7 @@ fn ends(row: &[u8; 1024], height: u16, at: u16) -> bool
 // The first row with a pair, or 24 where there is none.
 fn pair(rows: &[[u8; 1024]; 24], heights: &[u16; 24], at: &[u16; 24]) -> usize
     requires { ⌜ Room (now rows) (now heights) (now at) ⌝ }
-    ensures { λ r. ⌜ FirstPair (now (rows .entry)) (now (heights .entry)) (now (at .entry)) r ⌝ }
+    ensures { λ r. ⌜ FirstWith (Pair (now (rows .entry)) (now (heights .entry)) (now (at .entry))) r ⌝ }
 {
     let mut i = 0;
     while i < 24 {

@@ -21,8 +21,9 @@ use Rattle.spec.specs.Byte.{commandOf}
 use Rattle.spec.specs.Letters.{alphabet}
 use Rattle.input_plan.specs.Lettered.{Lettered}
 use Rattle.input_plan.specs.LetteredLaws.{lettered-filler}
+use Rattle.array_counts.specs.First.{FirstWith}
 use Rattle.array_counts.specs.Heights.{Both, Changed}
-use Rattle.piling_read.specs.Reading.{lowest, beadsLeft, Ready, FirstReady, Left}
+use Rattle.piling_read.specs.Reading.{lowest, beadsLeft, Ready, Left}
 
 -- a letter puts one bead on a stack whose command conflicts with it
 pub mark-count : (c : List ℕ) (k b : ℕ) → length (mark (alphabet c) 0 k b) ≡ bit (conflict c k (commandOf b))
@@ -69,7 +70,7 @@ module _ {rows : List (List ℕ)} {heights c at y : List ℕ} (e : Left rows hei
       (h, λ z. lettered-filler t (sym g ∙ z))
 
   -- the first row that is ready has the smallest command of all that can come first
-  pub left-least : {k : ℕ} → FirstReady rows heights at k → (d : ℕ) → First (alphabet c) d y → k + 1 ≤ commandOf d
+  pub left-least : {k : ℕ} → FirstWith (Ready rows heights at) k → (d : ℕ) → First (alphabet c) d y → k + 1 ≤ commandOf d
   left-least {k} f d (s, p) = go (decLt (commandOf d - 1) k)
     where
       t : 1 ≤ commandOf d
@@ -80,7 +81,7 @@ module _ {rows : List (List ℕ)} {heights c at y : List ℕ} (e : Left rows hei
       go (no h) = omega (arith, t)
 
   -- where no row is ready no letter is left
-  pub left-none : {k : ℕ} → FirstReady rows heights at k → 24 ≤ k → y ≡ []
+  pub left-none : {k : ℕ} → FirstWith (Ready rows heights at) k → 24 ≤ k → y ≡ []
   left-none {k} f h = first-none (alphabet c) y λ d o.
       let t : Lettered d = all-pick (alphabet c) Lettered (o .1) (e .letters) .0 in
       omega (arith, left-least f d o)

@@ -11,11 +11,12 @@ use Rattle.theory_words.specs.WritingLaws.{take-more, drop-more}
 use Rattle.theory_words.specs.Trace.{First}
 use Rattle.theory_words.specs.TraceLaws.{pick-length}
 use Rattle.input_conflicts.specs.Conflicts.{Conflicts}
+use Rattle.array_counts.specs.First.{NoneBelow, FirstWith}
 use Rattle.array_counts.specs.Heights.{Both, Changed}
 use Rattle.array_row.specs.Area.{ReadOff}
 use Rattle.spec.specs.Byte.{commandOf}
 use Rattle.spec.specs.Letters.{alphabet}
-use Rattle.piling_read.specs.Reading.{lowest, Room, Passed, FirstReady, Left, Readable}
+use Rattle.piling_read.specs.Reading.{lowest, Room, Ready, Left, Readable}
 use Rattle.piling_read.specs.Starts.{Starts}
 use Rattle.piling_read.specs.StartsLaws.{start-passed}
 use Rattle.piling_read.specs.LeftLaws.{left-shows, left-least, left-none, left-fits, left-next}
@@ -29,7 +30,7 @@ pub record Going (rows : List (List ℕ)) (heights c x before at area : List ℕ
 
 module _ {rows : List (List ℕ)} {heights c x before at area : List ℕ} {l : ℕ} {y : List ℕ}
     (g : Going rows heights c x before at area l y) where
-  pub going-end : {k : ℕ} → FirstReady rows heights at k → 24 ≤ k → ReadOff c x before area l
+  pub going-end : {k : ℕ} → FirstWith (Ready rows heights at) k → 24 ≤ k → ReadOff c x before area l
   unfolding lex
   going-end {k} f h =
       let e : lex (alphabet c) (length y) y ≡ []
@@ -42,7 +43,7 @@ module _ {rows : List (List ℕ)} {heights c x before at area : List ℕ} {l : �
             ∙ ap (λ s. lex (alphabet c) (length x) x ++ s) (g .kept);
       }
 
-  module _ {k : ℕ} (f : FirstReady rows heights at k) (h : k < 24) where
+  module _ {k : ℕ} (f : FirstWith (Ready rows heights at) k) (h : k < 24) where
     pub going-fits : l < length area
     going-fits =
         let (m, (r, p)) = left-shows (g .left) k h (f .found h) in
@@ -73,11 +74,11 @@ module _ {rows : List (List ℕ)} {heights c x before at area : List ℕ} {l : �
 
 -- the loop's state, for every catalogue and word that the arrays stand for
 pub record Written (conflicts rows : List (List ℕ)) (heights bottoms before at area : List ℕ) (l k : ℕ) : Type 0 where
-  pub first : FirstReady rows heights at k
+  pub first : FirstWith (Ready rows heights at) k
   pub going : (c x : List ℕ) → Readable c conflicts rows heights bottoms x before
       → (y : List ℕ) × Going rows heights c x before at area l y
 
-pub written-start : {conflicts rows : List (List ℕ)} {heights at area : List ℕ} {k : ℕ} → FirstReady rows heights at k
+pub written-start : {conflicts rows : List (List ℕ)} {heights at area : List ℕ} {k : ℕ} → FirstWith (Ready rows heights at) k
     → Written conflicts rows heights at area at area 0 k
 written-start f = record {
   first = f;
@@ -102,7 +103,7 @@ module _ {conflicts rows : List (List ℕ)} {heights bottoms before at area : Li
 
   module _ (h : k < 24) where
     pub written-again : {after : List ℕ} {next : ℕ} → Changed _+_ (getD conflicts k []) at after
-        → FirstReady rows heights after next
+        → FirstWith (Ready rows heights after) next
         → Written conflicts rows heights bottoms before after (set area l (lowest rows at k)) (l + 1) next
     written-again a f = record {
       first = f;
@@ -125,5 +126,5 @@ module _ {conflicts rows : List (List ℕ)} {heights bottoms before at area : Li
       written-room a = let (c, x, r) = some in going-on (w .going c x r .1) (w .first) h (r .table) a .1 .left .room
 
       pub written-passed : {starts after : List ℕ} → Starts conflicts starts
-          → Changed _+_ (getD conflicts k []) at after → Passed rows heights after (getD starts k 0)
-      written-passed s a = let (c, x, r) = some in start-passed (r .table) s h (w .first) a
+          → Changed _+_ (getD conflicts k []) at after → NoneBelow (Ready rows heights after) (getD starts k 0)
+      written-passed s a = let (c, x, r) = some in start-passed (r .table) s h rows heights (w .first) a

@@ -28,17 +28,6 @@ module _ (rows : List (List ℕ)) (heights : List ℕ) where
   abbrev pub Ready : List ℕ → ℕ → Type 0
   Ready at i = (getD at i 0 < getD heights i 0) × (lowest rows at i ≡ 0 → ⊥)
 
-  -- no row below k is ready
-  pub record Passed (at : List ℕ) (k : ℕ) : Type 0 where
-    pub within : k ≤ 24
-    pub none : (i : ℕ) → i < k → Ready at i → ⊥
-
-  -- k is the first row that is ready, or 24 where none is
-  pub record FirstReady (at : List ℕ) (k : ℕ) : Type 0 where
-    pub within : k ≤ 24
-    pub before : (i : ℕ) → i < k → Ready at i → ⊥
-    pub found : k < 24 → Ready at k
-
   -- the beads left in row i, the lowest first
   abbrev pub beadsLeft : List ℕ → ℕ → List ℕ
   beadsLeft at i = slice (getD at i 0) (getD heights i 0) (getD rows i [])

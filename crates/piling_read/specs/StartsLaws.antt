@@ -12,8 +12,9 @@ use Rattle.input_conflicts.specs.Conflicts.{bit, Conflicts}
 use Rattle.spec.specs.AlphabetLaws.{conflict-refl, conflict-sym}
 use Rattle.array_counts.specs.Blank.{blankHeights, Ones}
 use Rattle.array_counts.specs.BlankLaws.{blank-zero, blank-many}
+use Rattle.array_counts.specs.First.{NoneBelow, FirstWith}
 use Rattle.array_counts.specs.Heights.{Both, Changed, without}
-use Rattle.piling_read.specs.Reading.{Passed, FirstReady}
+use Rattle.piling_read.specs.Reading.{Ready}
 use Rattle.piling_read.specs.Starts.{Starts}
 
 without-left : (f n : ℕ) → without f n ≤ f
@@ -116,9 +117,9 @@ module _ {c : List ℕ} {table : List (List ℕ)} {starts : List ℕ} {k : ℕ} 
       let m : i < 24 = omega (arith, start-low) in
       t .tells k i l m ∙ ap bit (conflict-sym c (k + 1) (i + 1)) ∙ sym (t .tells i k m l) ∙ s .apart k l i h
 
-  pub start-passed : {rows : List (List ℕ)} {heights at after : List ℕ} → FirstReady rows heights at k
-      → Changed _+_ (getD table k []) at after → Passed rows heights after (getD starts k 0)
-  start-passed {rows} {heights} {at} {after} f a = record {
+  pub start-passed : (rows : List (List ℕ)) (heights : List ℕ) {at after : List ℕ} → FirstWith (Ready rows heights at) k
+      → Changed _+_ (getD table k []) at after → NoneBelow (Ready rows heights after) (getD starts k 0)
+  start-passed rows heights {at} {after} f a = record {
     within = s .within k l;
     none = λ i h o.
         let b : i < k = omega (arith, start-low) in

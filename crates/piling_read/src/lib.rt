@@ -4,7 +4,8 @@ ghost use Prim.Native.Nat.{ℕ};
 ghost use mathlib.Core.List.{List};
 ghost use Rattle.input_conflicts.specs.Conflicts.{Conflicts};
 ghost use Rattle.array_row.specs.Area.{ReadOff};
-ghost use Rattle.piling_read.specs.Reading.{Room, Passed, FirstReady, Readable};
+ghost use Rattle.array_counts.specs.First.{NoneBelow, FirstWith};
+ghost use Rattle.piling_read.specs.Reading.{Room, Ready, Readable};
 ghost use Rattle.piling_read.specs.Starts.{Starts};
 
 // For each row how many rows come before the first one that conflicts with it.
@@ -27,7 +28,7 @@ fn starts(conflicts: &[[u16; 24]; 24]) -> [u16; 24]
 // empty, so the bead is looked at before the height.
 fn ready(rows: &[[u8; 1024]; 24], heights: &[u16; 24], at: &[u16; 24]) -> usize
     requires { ⌜ Room (now rows) (now heights) (now at) ⌝ }
-    ensures { λ r. ⌜ FirstReady (now (rows .entry)) (now (heights .entry)) (now (at .entry)) r ⌝ }
+    ensures { λ r. ⌜ FirstWith (Ready (now (rows .entry)) (now (heights .entry)) (now (at .entry))) r ⌝ }
 {
     let mut k = 0;
     while k < 24 {
@@ -38,13 +39,14 @@ fn ready(rows: &[[u8; 1024]; 24], heights: &[u16; 24], at: &[u16; 24]) -> usize
         }
         k += 1;
     }
-    k
+    24
 }
 
 // As `ready`, where no row below the start is ready.
 fn ready_from(rows: &[[u8; 1024]; 24], heights: &[u16; 24], at: &[u16; 24], start: usize) -> usize
-    requires { ⌜ Room (now rows) (now heights) (now at) × Passed (now rows) (now heights) (now at) start ⌝ }
-    ensures { λ r. ⌜ FirstReady (now (rows .entry)) (now (heights .entry)) (now (at .entry)) r ⌝ }
+    requires { ⌜ Room (now rows) (now heights) (now at)
+        × NoneBelow (Ready (now rows) (now heights) (now at)) start ⌝ }
+    ensures { λ r. ⌜ FirstWith (Ready (now (rows .entry)) (now (heights .entry)) (now (at .entry))) r ⌝ }
 {
     let mut k = start;
     while k < 24 {
@@ -55,13 +57,14 @@ fn ready_from(rows: &[[u8; 1024]; 24], heights: &[u16; 24], at: &[u16; 24], star
         }
         k += 1;
     }
-    k
+    24
 }
 
 // As `ready_from`. The loop over all rows is unrolled and takes less for each, so a low start does not pay.
 fn next(rows: &[[u8; 1024]; 24], heights: &[u16; 24], at: &[u16; 24], start: usize) -> usize
-    requires { ⌜ Room (now rows) (now heights) (now at) × Passed (now rows) (now heights) (now at) start ⌝ }
-    ensures { λ r. ⌜ FirstReady (now (rows .entry)) (now (heights .entry)) (now (at .entry)) r ⌝ }
+    requires { ⌜ Room (now rows) (now heights) (now at)
+        × NoneBelow (Ready (now rows) (now heights) (now at)) start ⌝ }
+    ensures { λ r. ⌜ FirstWith (Ready (now (rows .entry)) (now (heights .entry)) (now (at .entry))) r ⌝ }
 {
     if start < 6 {
         return ready(rows, heights, at);

@@ -1,38 +1,29 @@
--- `long_form::ready` meets its contract. The loop's invariant: blanks are counted at each index below i. Assumes
--- nothing.
-use Prim.Native.Nat.{ℕ, _-_, _≤_, _<_}
+-- `long_form::ready` meets its contract: no stack below i has a letter on top. Assumes nothing.
+use Prim.Native.Nat.{_-_}
 use native.Mathlib.Omega.{arith}
-use mathlib.Core.Path.{_≡_}
-use borrow.Author.Count.{below-more}
-use lib.ListN.{getD}
+use Rattle.array_counts.specs.First.{NoneBelow}
+use Rattle.array_counts.specs.FirstLaws.{none-start, none-again, first-found, first-none}
+use Rattle.long_form.specs.Reading.{LetterOnTop}
 use Rattle.long_form.proofs.ready.Statement.{statement}
 use Rattle.long_form.proofs.ready.Tie as tie
 
 abbrev Inv-loop : tie.InvT-loop
-Inv-loop blanks i₀ i = (i ≤ 24) × ((j : ℕ) → j < i → getD blanks j 0 ≡ 0 → ⊥)
+Inv-loop blanks i₀ i = NoneBelow (LetterOnTop blanks) i
 
 abbrev μ-loop : tie.MeasureT-loop
 μ-loop blanks i₀ i = 24 - i
 
 loop-holds : tie.Need-loop-holds Inv-loop μ-loop
-loop-holds c = (omega arith, λ j l. absurd (omega arith))
+loop-holds c = none-start _
 
 returns : tie.Need-returns Inv-loop μ-loop
-returns c = record {
-  within = omega arith;
-  before = c .before .before .before .loop .inv .1;
-  found = λ l. c .if1 .taken;
-}
+returns c = first-found (c .before .before .before .loop .inv) (omega arith) (c .if1 .taken)
 
 loop-again : tie.Need-loop-again Inv-loop μ-loop
-loop-again c = (omega arith, below-more _ _ (c .before .before .before .loop .inv .1) (c .if1 .left))
+loop-again c = none-again (c .before .before .before .loop .inv) (omega arith) (c .if1 .left)
 
 returns-2 : tie.Need-returns-2 Inv-loop μ-loop
-returns-2 c = record {
-  within = omega arith;
-  before = c .before .loop .inv .1;
-  found = λ l. absurd (omega arith);
-}
+returns-2 c = first-none (c .before .loop .inv) (omega arith)
 
 pub ready-spec : {M : Type 1} → statement M
 ready-spec =

@@ -3,18 +3,20 @@ use Prim.Native.Nat.{_-_}
 use mathlib.Core.Path.{sym, _∙_}
 use mathlib.Core.Bool.{true≢false}
 use native.Mathlib.Omega.{arith}
-use Rattle.piling_core.specs.PairLaws.{Passed, passed-start, passed-again, passed-found, passed-all}
+use Rattle.array_counts.specs.First.{NoneBelow}
+use Rattle.array_counts.specs.FirstLaws.{none-start, none-again, first-found, first-none}
+use Rattle.piling_core.specs.Peeling.{Pair}
 use Rattle.piling_core.proofs.pair.Statement.{statement}
 use Rattle.piling_core.proofs.pair.Tie as tie
 
 abbrev Inv-loop : tie.InvT-loop
-Inv-loop rows heights at i₀ i = Passed rows heights at i
+Inv-loop rows heights at i₀ i = NoneBelow (Pair rows heights at) i
 
 abbrev μ-loop : tie.MeasureT-loop
 μ-loop rows heights at i₀ i = 24 - i
 
 loop-holds : tie.Need-loop-holds Inv-loop μ-loop
-loop-holds c = passed-start _ _ _
+loop-holds c = none-start _
 
 ends-requires : tie.Need-ends-requires Inv-loop μ-loop
 ends-requires c κs =
@@ -25,16 +27,16 @@ ends-requires c κs =
 returns : tie.Need-returns Inv-loop μ-loop
 returns c =
     let l = c .before .before .before .before .before .before in
-    passed-found (l .loop .inv) (omega arith) (c .before .ends .ensures .0 (c .if1 .taken))
+    first-found (l .loop .inv) (omega arith) (c .before .ends .ensures .0 (c .if1 .taken))
 
 loop-again : tie.Need-loop-again Inv-loop μ-loop
 loop-again c =
     let l = c .before .before .before .before .before .before in
-    passed-again (l .loop .inv) (omega arith)
+    none-again (l .loop .inv) (omega arith)
     (λ o. true≢false (sym (c .before .ends .ensures .1 o) ∙ c .if1 .left))
 
 returns-2 : tie.Need-returns-2 Inv-loop μ-loop
-returns-2 c = passed-all (c .before .loop .inv) (omega arith)
+returns-2 c = first-none (c .before .loop .inv) (omega arith)
 
 pub pair-spec : {M : Type 1} → statement M
 pair-spec =

@@ -4,13 +4,15 @@ use lib.ListN.{getD}
 use denote.Ref.{now}
 use native.Mathlib.Omega.{arith}
 use mathlib.Core.Logic.{⊎-elim}
-use Rattle.piling_read.specs.Reading.{Passed}
-use Rattle.piling_read.specs.ReadyLaws.{ready-index, passed-empty, passed-blank, passed-found, passed-all}
+use Rattle.array_counts.specs.First.{NoneBelow}
+use Rattle.array_counts.specs.FirstLaws.{none-again, first-found, first-none}
+use Rattle.piling_read.specs.Reading.{Ready}
+use Rattle.piling_read.specs.ReadyLaws.{ready-index}
 use Rattle.piling_read.proofs.ready_from.Statement.{statement}
 use Rattle.piling_read.proofs.ready_from.Tie as tie
 
 abbrev Inv-loop : tie.InvT-loop
-Inv-loop rows heights at start k₀ k = Passed rows heights at k
+Inv-loop rows heights at start k₀ k = NoneBelow (Ready rows heights at) k
 
 abbrev μ-loop : tie.MeasureT-loop
 μ-loop rows heights at start k₀ k = 24 - k
@@ -35,18 +37,16 @@ returns : tie.Need-returns Inv-loop μ-loop
 returns c =
     let i = c .before .before .before .before .before .before in
     let t = c .before .before .before .if1 .taken in
-    passed-found (i .before .loop .inv) (i .loop-test .taken) (t, c .if2 .taken)
+    first-found (i .before .loop .inv) (i .loop-test .taken) (t, c .if2 .taken)
 
 loop-again : tie.Need-loop-again Inv-loop μ-loop
 loop-again c =
     let i = c .before .before .before in
-    ⊎-elim
-    (λ w. passed-blank (i .before .loop .inv) (i .loop-test .taken) (w .3 .left))
-    (λ w. passed-empty (i .before .loop .inv) (i .loop-test .taken) (w .left))
-    (c .if1 .came)
+    none-again (i .before .loop .inv) (i .loop-test .taken) λ o.
+    ⊎-elim (λ w. o .1 (w .3 .left)) (λ w. omega (arith, w .left, o .0)) (c .if1 .came)
 
 returns-2 : tie.Need-returns-2 Inv-loop μ-loop
-returns-2 c = passed-all (c .before .loop .inv) (c .loop-test .left)
+returns-2 c = first-none (c .before .loop .inv) (c .loop-test .left)
 
 pub ready-from-spec : {M : Type 1} → statement M
 ready-from-spec =
