@@ -4,3 +4,4 @@ pub mod RowLaws
 pub mod UndoLaws
 pub mod Area
 pub mod AreaLaws
+pub mod ReadOffLaws

@@ -69,8 +69,8 @@ pub record Taken (conflicts rows : List (List ℕ)) (heights₀ at₀ before hei
   pub going : (c x : List ℕ) → Peelable c conflicts rows heights₀ at₀ x before
       → (y : List ℕ) × Going c rows x before heights at lead l y
 
-pub taken-start : {conflicts rows : List (List ℕ)} {heights at lead : List ℕ} {k : ℕ} → FirstWith (Pair rows heights at) k
-    → Taken conflicts rows heights at lead heights at lead 0 k
+pub taken-start : {conflicts rows : List (List ℕ)} {heights at lead : List ℕ} {k : ℕ}
+    → FirstWith (Pair rows heights at) k → Taken conflicts rows heights at lead heights at lead 0 k
 taken-start f = record {
   first = f;
   going = λ c x p. (x, record { left = p .left; long = refl; count = omega arith; cores = λ g z q. q; kept = refl });

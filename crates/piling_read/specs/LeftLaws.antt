@@ -1,17 +1,15 @@
--- What is left of a piling: a row that is ready shows a letter that can come first, the first such row the smallest,
--- and a letter takes one bead off each row whose command conflicts with it.
+-- What is left of a piling: a row that is ready shows a letter that can come first, and a letter takes one bead off each
+-- row whose command conflicts with it.
 use Prim.Native.Nat.{ℕ, suc, _+_, _-_, _<_, _≤_}
 use mathlib.Core.Path.{_≡_, refl, sym, _∙_, ap, subst}
 use mathlib.Core.Bool.{Bool, true, false}
 use mathlib.Core.List.{List, [], _∷_, head-eq-of-cons-eq}
 use native.Mathlib.Omega.{arith}
-use native.Mathlib.Decide.{decLt}
 use lib.ListN.{length, getD, take, drop, length-append}
 use lib.Dec.{eqb}
 use lib.Seq.{slice, slice-cons, length-slice, drop-drop, drop-at}
 use Rattle.theory_words.specs.All.{all-pick}
 use Rattle.theory_words.specs.Trace.{Pick, First}
-use Rattle.theory_words.specs.TraceLaws.{first-none}
 use Rattle.theory_words.specs.Stack.{mark, mark-step, proj}
 use Rattle.theory_words.specs.StackLaws.{proj-pick, proj-first, proj-front}
 use Rattle.spec.specs.Conflict.{conflict}
@@ -21,8 +19,8 @@ use Rattle.spec.specs.Byte.{commandOf}
 use Rattle.spec.specs.Letters.{alphabet}
 use Rattle.input_plan.specs.Lettered.{Lettered}
 use Rattle.input_plan.specs.LetteredLaws.{lettered-filler}
-use Rattle.array_counts.specs.First.{FirstWith}
 use Rattle.array_counts.specs.Heights.{Both, Changed}
+use Rattle.array_row.specs.ReadOffLaws.{Shows}
 use Rattle.piling_read.specs.Reading.{lowest, beadsLeft, Ready, Left}
 
 -- a letter puts one bead on a stack whose command conflicts with it
@@ -69,22 +67,9 @@ module _ {rows : List (List ℕ)} {heights c at y : List ℕ} (e : Left rows hei
       let g : lowest rows at r ≡ d = head-eq-of-cons-eq (sym (left-cons r l h) ∙ f) in
       (h, λ z. lettered-filler t (sym g ∙ z))
 
-  -- the first row that is ready has the smallest command of all that can come first
-  pub left-least : {k : ℕ} → FirstWith (Ready rows heights at) k → (d : ℕ) → First (alphabet c) d y → k + 1 ≤ commandOf d
-  left-least {k} f d (s, p) = go (decLt (commandOf d - 1) k)
-    where
-      t : 1 ≤ commandOf d
-      t = all-pick (alphabet c) Lettered p (e .letters) .0 .0
-
-      go : Dec (commandOf d - 1 < k) → k + 1 ≤ commandOf d
-      go (yes h) = absurd (f .before (commandOf d - 1) h (left-ready (commandOf d - 1) p (omega (arith, t))))
-      go (no h) = omega (arith, t)
-
-  -- where no row is ready no letter is left
-  pub left-none : {k : ℕ} → FirstWith (Ready rows heights at) k → 24 ≤ k → y ≡ []
-  left-none {k} f h = first-none (alphabet c) y λ d o.
-      let t : Lettered d = all-pick (alphabet c) Lettered (o .1) (e .letters) .0 in
-      omega (arith, left-least f d o)
+  -- a row is ready exactly if it shows a letter that can come first
+  pub left-first : Shows c (Ready rows heights at) (lowest rows at) y
+  left-first = record { letters = e .letters; shown = left-shows; ready = λ k l d o m. left-ready k (o .1) m }
 
   -- taking a letter off
   module _ {table : List (List ℕ)} {k b : ℕ} {r : List ℕ} (t : Conflicts c table) (l : k < 24)

@@ -4,7 +4,7 @@ use Prim.Native.Nat.{_-_}
 use native.Mathlib.Omega.{arith}
 use lib.ListN.{length}
 use borrow.Author.Needs.{needs}
-use Rattle.long_form.specs.ReadLaws.{Underway, underway-start, underway-end, underway-again}
+use Rattle.long_form.specs.ReadLaws.{Underway, underway-start, underway-end, underway-long, underway-again}
 use Rattle.long_form.specs.ReadLaws.{underway-inside, underway-fits, underway-cuttable}
 use Rattle.long_form.proofs.read_off.Statement.{statement}
 use Rattle.long_form.proofs.read_off.Tie as tie
@@ -32,7 +32,9 @@ slice-write-area : tie.Need-slice-write-area Inv-loop μ-loop
 slice-write-area c = underway-fits (c .before .before .before .loop .inv) (omega arith)
 
 add-l : tie.Need-add-l Inv-loop μ-loop
-add-l c = omega (arith, underway-fits (c .before .before .before .loop .inv) (omega arith))
+add-l c =
+    let w = c .before .before .before .loop .inv in
+    omega (arith, underway-fits w (omega arith), underway-long w)
 
 cut-requires : tie.Need-cut-requires Inv-loop μ-loop
 cut-requires c κs =
@@ -42,7 +44,7 @@ cut-requires c κs =
 loop-less : tie.Need-loop-less Inv-loop μ-loop
 loop-less c =
     let l = c .before .before .before .before .before .before .before .before .before .before in
-    omega (arith, underway-fits (l .loop .inv) (omega arith), l .loop .inv .long)
+    omega (arith, underway-fits (l .loop .inv) (omega arith), underway-long (l .loop .inv))
 
 loop-again : tie.Need-loop-again Inv-loop μ-loop
 loop-again c =
@@ -50,7 +52,7 @@ loop-again c =
     underway-again (l .loop .inv) (omega arith) (c .before .before .cut .ensures) (c .ready2 .ensures)
 
 same-length : tie.Need-same-length Inv-loop μ-loop
-same-length c = c .before .loop .inv .long
+same-length c = underway-long (c .before .loop .inv)
 
 returns : tie.Need-returns Inv-loop μ-loop
 returns c = underway-end (c .before .loop .inv) (c .loop-test .left)
