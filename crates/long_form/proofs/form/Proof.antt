@@ -1,23 +1,17 @@
--- `long_wordform::form` meets its contract: each branch has links for words of the length tested. Assumes nothing.
+-- `long_form::form` meets its contract: each branch has links for words of the length tested. Assumes nothing.
 use borrow.Author.Needs.{needs}
 use Rattle.long_form.specs.FormingLaws.{formable-within}
 use Rattle.long_form.proofs.form.Statement.{statement}
 use Rattle.long_form.proofs.form.Tie as tie
 
 form-1024-requires : tie.Need-form-1024-requires
-form-1024-requires c κs =
-    let (k, f) = c .before .before .before .before .pre in
-    (k, formable-within (c .before .if1 .taken) f)
+form-1024-requires c κs = formable-within (c .before .if1 .taken) (c .before .before .before .before .pre)
 
 form-2048-requires : tie.Need-form-2048-requires
-form-2048-requires c κs =
-    let (k, f) = c .before .before .before .before .before .pre in
-    (k, formable-within (c .before .if2 .taken) f)
+form-2048-requires c κs = formable-within (c .before .if2 .taken) (c .before .before .before .before .before .pre)
 
 form-8192-requires : tie.Need-form-8192-requires
-form-8192-requires c κs =
-    let (k, f) = c .before .before .before .before .before .before .pre in
-    (k, formable-within (c .before .if3 .taken) f)
+form-8192-requires c κs = formable-within (c .before .if3 .taken) (c .before .before .before .before .before .before .pre)
 
 pub form-spec : {M : Type 1} → statement M
 form-spec =

@@ -1,14 +1,13 @@
--- `long_wordform::form_1024` meets its contract: the links are as many as the word may have letters. Assumes nothing.
+-- `long_form::form_1024` meets its contract: the links are as many as the word may have letters. Assumes nothing.
 use borrow.Author.Needs.{needs}
-use Rattle.long_form.specs.FormingLaws.{formable-room}
+use Rattle.long_form.specs.FormingLaws.{formable-asks}
 use Rattle.long_form.proofs.form_1024.Statement.{statement}
 use Rattle.long_form.proofs.form_1024.Tie as tie
 
 normal-form-requires : tie.Need-normal-form-requires
 normal-form-requires c κs =
     let l = c .before .before .before in
-    let (k, f) = l .before .before .before .before .pre in
-    (k, f .given, formable-room f (l .before .links-1024 .ensures) (l .links-10242 .ensures))
+    formable-asks (l .before .before .before .before .pre) (l .before .links-1024 .ensures) (l .links-10242 .ensures)
 
 pub form-1024-spec : {M : Type 1} → statement M
 form-1024-spec =

@@ -1,14 +1,13 @@
--- `long_wordform::form_2048` meets its contract: the links are as many as the word may have letters. Assumes nothing.
+-- `long_form::form_2048` meets its contract: the links are as many as the word may have letters. Assumes nothing.
 use borrow.Author.Needs.{needs}
-use Rattle.long_form.specs.FormingLaws.{formable-room}
+use Rattle.long_form.specs.FormingLaws.{formable-asks}
 use Rattle.long_form.proofs.form_2048.Statement.{statement}
 use Rattle.long_form.proofs.form_2048.Tie as tie
 
 normal-form-requires : tie.Need-normal-form-requires
 normal-form-requires c κs =
     let l = c .before .before .before in
-    let (k, f) = l .before .before .before .before .pre in
-    (k, f .given, formable-room f (l .before .links-2048 .ensures) (l .links-20482 .ensures))
+    formable-asks (l .before .before .before .before .pre) (l .before .links-2048 .ensures) (l .links-20482 .ensures)
 
 pub form-2048-spec : {M : Type 1} → statement M
 form-2048-spec =
