@@ -1,4 +1,4 @@
--- From the reduced stacks to the normal form.
+-- From the reduced stacks to the normal form: they can be read off, and the letters read are the normal form.
 use Prim.Native.Nat.{ℕ, _≤_}
 use native.Mathlib.Omega.{arith}
 use mathlib.Core.List.{List}

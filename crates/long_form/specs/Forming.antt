@@ -1,4 +1,4 @@
--- What the normal form of a long word asks and gives, where no rows are lent.
+-- What a caller of `form`, who lends no rows, has to bring, and what it gets.
 use Prim.Native.Nat.{ℕ, _≤_}
 use mathlib.Core.List.{List}
 use lib.ListN.{length}

@@ -1,4 +1,4 @@
--- Reading the stacks of a long word off.
+-- Reading the stacks of a long word off: when a letter is on top, and what is asked.
 use Prim.Native.Nat.{ℕ, _≤_}
 use mathlib.Core.Path.{_≡_}
 use mathlib.Core.List.{List}

@@ -54,13 +54,13 @@ module _ {c : List ℕ} {conflicts : List (List ℕ)} {word under link tops blan
   pub reducing-within : p < length word
   reducing-within = omega (arith, s .stacks .room)
 
-  split : drop p word ≡ getD word p 0 ∷ drop (p + 1) word
-  split = rw (add-one, drop-cons word p 0 reducing-within)
+  drop-split : drop p word ≡ getD word p 0 ∷ drop (p + 1) word
+  drop-split = rw (add-one, drop-cons word p 0 reducing-within)
 
   pub reducing-filler : getD word p 0 ≡ 0 → Reducing c conflicts word under link tops blanks p
   reducing-filler e =
       let t : letters (drop p word) ≡ letters (drop (p + 1) word)
-      = ap letters split ∙ letters-filler (getD word p 0) (drop (p + 1) word) (eq-eqb (getD word p 0) 0 e) in
+      = ap letters drop-split ∙ letters-filler (getD word p 0) (drop (p + 1) word) (eq-eqb (getD word p 0) 0 e) in
       record { given = s .given; stacks = rw t (stacks-earlier (s .stacks)) }
 
   -- a letter a of command k + 1 at place p
@@ -73,18 +73,18 @@ module _ {c : List ℕ} {conflicts : List (List ℕ)} {word under link tops blan
         let (l, m) = command-range (commands c) a (omega (arith, g .few)) u in
         (l, omega (arith, m, g .few))
 
-    acted : act (alphabet c) a (later c word p) ≡ reduce (alphabet c) (letters (drop p word))
+    acts-reduce : act (alphabet c) a (later c word p) ≡ reduce (alphabet c) (letters (drop p word))
     unfolding reduce
-    acted =
-        let t : drop p word ≡ a ∷ drop (p + 1) word = rw is at split in
+    acts-reduce =
+        let t : drop p word ≡ a ∷ drop (p + 1) word = rw is at drop-split in
         sym (ap (reduce (alphabet c)) (ap letters t ∙ letters-letter a (drop (p + 1) word) (ne-eqb a 0 o)))
 
-    own : commandOf a ≡ k + 1
-    own = omega (arith, reducing-lettered .0)
+    command-own : commandOf a ≡ k + 1
+    command-own = omega (arith, reducing-lettered .0)
 
     pub reducing-lined : Lined c (getD conflicts k []) k
     reducing-lined =
-        let h : k < 24 = omega (arith, own, reducing-lettered .1) in
+        let h : k < 24 = omega (arith, command-own, reducing-lettered .1) in
         record {
           within = h;
           wide = s .given .table .wide k h;
@@ -92,7 +92,7 @@ module _ {c : List ℕ} {conflicts : List (List ℕ)} {word under link tops blan
         }
 
     undone-own : commandOf (undone a) ≡ k + 1
-    undone-own = command-undone a ∙ own
+    undone-own = command-undone a ∙ command-own
 
     pub reducing-puttable : Puttable under link tops blanks (getD conflicts k []) p k
     reducing-puttable = stacks-puttable (s .stacks) reducing-lined
@@ -108,8 +108,8 @@ module _ {c : List ℕ} {conflicts : List (List ℕ)} {word under link tops blan
         n z e in
         record {
           given = s .given;
-          stacks = rw (sym acted ∙ act-is (alphabet c) (put m), ← is)
-              (stacks-put (s .stacks) reducing-lined (ap commandOf is ∙ own) u);
+          stacks = rw (sym acts-reduce ∙ act-is (alphabet c) (put m), ← is)
+              (stacks-put (s .stacks) reducing-lined (ap commandOf is ∙ command-own) u);
         }
 
     pub reducing-inside : getD blanks k 0 ≡ 0 → getD tops k 0 - 1 < length word
@@ -127,7 +127,7 @@ module _ {c : List ℕ} {conflicts : List (List ℕ)} {word under link tops blan
         = rw e at (stacks-first (s .stacks) (reducing-lined .within) z .1) in
         record {
           given = s .given;
-          stacks = rw (sym acted ∙ act-is (alphabet c) (cut (f .1)))
+          stacks = rw (sym acts-reduce ∙ act-is (alphabet c) (cut (f .1)))
               (stacks-earlier (stacks-cut (s .stacks) reducing-lined z (f .1) undone-own u));
         }
 
@@ -143,12 +143,12 @@ pub record Backwards (conflicts : List (List ℕ)) (word under₀ link₀ tops�
 module _ {conflicts : List (List ℕ)} {word under₀ link₀ tops₀ blanks₀ under link tops blanks : List ℕ} {i : ℕ}
     (b : Backwards conflicts word under₀ link₀ tops₀ blanks₀ under link tops blanks i) where
   -- at another number that is i
-  at : {j : ℕ} → j ≡ i → (c : List ℕ) → Reducing c conflicts word under₀ link₀ tops₀ blanks₀ (length word)
+  reaches-at : {j : ℕ} → j ≡ i → (c : List ℕ) → Reducing c conflicts word under₀ link₀ tops₀ blanks₀ (length word)
       → Reducing c conflicts word under link tops blanks j
-  at e c r = rw e (b .reaches c r)
+  reaches-at e c r = rw e (b .reaches c r)
 
   pub backwards-some : 0 < i → (c : List ℕ) × Reducing c conflicts word under link tops blanks (i - 1 + 1)
-  backwards-some h = let (c, r) = b .some in (c, at (omega arith) c r)
+  backwards-some h = let (c, r) = b .some in (c, reaches-at (omega arith) c r)
 
   pub backwards-again : {under′ link′ tops′ blanks′ : List ℕ} → 0 < i → length under′ ≡ length under₀
       → length link′ ≡ length link₀
@@ -159,9 +159,9 @@ module _ {conflicts : List (List ℕ)} {word under₀ link₀ tops₀ blanks₀ 
     some = b .some;
     unders = u;
     links = l;
-    reaches = λ c r. f c (at (omega arith) c r);
+    reaches = λ c r. f c (reaches-at (omega arith) c r);
   }
 
   pub backwards-end : i ≤ 0 → (c : List ℕ) → Reducing c conflicts word under₀ link₀ tops₀ blanks₀ (length word)
       → Reducing c conflicts word under link tops blanks 0
-  backwards-end h = at (omega arith)
+  backwards-end h = reaches-at (omega arith)

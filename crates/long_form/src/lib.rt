@@ -1,21 +1,20 @@
-// The normal form of a long word, in time linear in its length.
-// The reduction of a long word, in time linear in its length: letter by letter from its right end.
-// The normal form of a long word, with links of its own: as many as a word of its length needs, so that a short word
-// clears little.
+// The normal form of a long word, in time linear in its length: its letters are put on stacks from its right end, each
+// cutting its undo off if that is on top, and the stacks are read off. Their links are as many as a word of its length
+// needs, so that a short word clears little.
 
+use input_plan::undo;
 use long_stacks::cut;
+use long_stacks::put;
 ghost use Prim.Native.Nat.{ℕ, _+_};
+ghost use mathlib.Core.Path.{_≡_};
 ghost use mathlib.Core.List.{List};
+ghost use lib.ListN.{length};
+ghost use Rattle.spec.specs.Letters.{normalForm};
 ghost use Rattle.array_counts.specs.First.{FirstWith};
 ghost use Rattle.array_row.specs.Area.{StartsWith, ReadOff};
-ghost use Rattle.spec.specs.Letters.{normalForm};
 ghost use Rattle.long_form.specs.Reducing.{Given, Reducing};
-ghost use Rattle.long_form.specs.Form.{Room};
 ghost use Rattle.long_form.specs.Reading.{LetterOnTop, Readable};
-use input_plan::undo;
-use long_stacks::put;
-ghost use lib.ListN.{length};
-ghost use mathlib.Core.Path.{_≡_};
+ghost use Rattle.long_form.specs.Form.{Room};
 ghost use Rattle.long_form.specs.Forming.{Formable, Formed};
 
 // One letter more, at place p: it is cut off with its undo, or put on the stacks.
@@ -167,7 +166,8 @@ fn links_50176() -> [u16; 50176]
     [0; 50176]
 }
 
-// The normal form of a word, with links for so many letters.
+// The normal form of a word, with links for so many letters. These are four functions, each with one call, so that the
+// links of all take one place on the stack: as locals of one function each had its own, 45,056 bytes more.
 
 fn form_1024(word: &[u8], conflicts: &[[u16; 24]; 24], area: &mut [u8]) -> usize
     requires { ⌜ ((c : List ℕ) × Formable 1024 c (now conflicts) (now word) (now area)) ⌝ }

@@ -16,8 +16,8 @@ module _ {word under link tops blanks line under′ link′ tops′ blanks′ : 
     (u : Put under link tops blanks line p k under′ link′ tops′ blanks′) (within : p < length word)
     (unders : length word ≤ length under) (links : length word ≤ length link) (many : k < length tops) where
   -- a stack of later places is as it was
-  kept : {t n : ℕ} {bs : List ℕ} → Runs word under link (p + 1) t n bs → Runs word under′ link′ p t n bs
-  kept r = rw (u .unders, u .links) (runs-earlier p (omega arith) (runs-write p _ _ (omega arith) r))
+  put-kept : {t n : ℕ} {bs : List ℕ} → Runs word under link (p + 1) t n bs → Runs word under′ link′ p t n bs
+  put-kept r = rw (u .unders, u .links) (runs-earlier p (omega arith) (runs-write p _ _ (omega arith) r))
 
   -- a stack of another command
   put-other : {j n : ℕ} {bs : List ℕ} → j < 24 → ¬ (j ≡ k) → getD blanks j 0 + getD line j 0 ≡ n
@@ -25,7 +25,7 @@ module _ {word under link tops blanks line under′ link′ tops′ blanks′ : 
       → Runs word under′ link′ p (getD tops′ j 0) (getD blanks′ j 0) bs
   put-other {j} h o e r =
       let t : getD tops′ j 0 ≡ getD tops j 0 = rw (u .top) (getD-set-other tops k j _ 0 o) in
-      rw (t, u .zeros .rest j h o, e) (kept r)
+      rw (t, u .zeros .rest j h o, e) (put-kept r)
 
   -- the stack of its own command
   put-own : {bs : List ℕ} → ¬ (getD word p 0 ≡ 0) → Runs word under link (p + 1) (getD tops k 0) (getD blanks k 0) bs
@@ -34,7 +34,7 @@ module _ {word under link tops blanks line under′ link′ tops′ blanks′ : 
       let t : getD tops′ k 0 ≡ suc p = rw (u .top) (getD-set-same tops k _ 0 many ∙ add-one p) in
       let l : getD link′ p 0 ≡ getD tops k 0 = rw (u .links) (getD-set-same link p _ 0 (omega arith)) in
       let n : getD under′ p 0 ≡ getD blanks k 0 = rw (u .unders) (getD-set-same under p _ 0 (omega arith)) in
-      let b : Runs word under′ link′ p (getD link′ p 0) (getD under′ p 0) bs = rw (l, n) (kept r) in
+      let b : Runs word under′ link′ p (getD link′ p 0) (getD under′ p 0) bs = rw (l, n) (put-kept r) in
       rw (t, u .zeros .own) (bead (le-refl p) within o b)
 
   -- one stack, when the letter at place p is put on

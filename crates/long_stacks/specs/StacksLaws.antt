@@ -58,8 +58,9 @@ module _ {c word under link tops blanks : List ℕ} {i k : ℕ} {x : List ℕ}
       (z, sym (head-eq-of-cons-eq (sym e ∙ stacks-topped l z .1 .beads)))
 
   module _ {line : List ℕ} (n : Lined c line k) where
-    meets : (b j : ℕ) → commandOf b ≡ k + 1 → j < 24 → Meets k b j (getD line j 0) (mark (alphabet c) 0 (j + 1) b)
-    meets b j e l = meets-line c k b j (getD line j 0) e (n .tells j l)
+    letter-meets : (b j : ℕ) → commandOf b ≡ k + 1 → j < 24
+        → Meets k b j (getD line j 0) (mark (alphabet c) 0 (j + 1) b)
+    letter-meets b j e l = meets-line c k b j (getD line j 0) e (n .tells j l)
 
     line-one : (j : ℕ) → j < 24 → getD line j 0 ≤ 1
     line-one j l = rw (n .tells j l) (bit-low (conflict c (k + 1) (j + 1)))
@@ -92,7 +93,7 @@ module _ {c word under link tops blanks : List ℕ} {i k : ℕ} {x : List ℕ}
             rw (o, getD-set-same blanks k 1 0 (omega (arith, s .count, n .within))) (line-one k (n .within))
         low {b} r p m j l (no o) =
             let t = rw (proj-pick (alphabet c) 0 (j + 1) p) at (s .runs j l) in
-            rw (getD-set-other blanks k j 1 0 o) (meets-low (proj (alphabet c) 0 (j + 1) r) (meets b j m l) o t)
+            rw (getD-set-other blanks k j 1 0 o) (meets-low (proj (alphabet c) 0 (j + 1) r) (letter-meets b j m l) o t)
 
     pub stacks-cut : {b : ℕ} {r tops′ blanks′ : List ℕ} → getD blanks k 0 ≡ 0 → Pick (alphabet c) b x r
         → commandOf b ≡ k + 1 → Cut under link tops blanks line k tops′ blanks′
@@ -105,7 +106,7 @@ module _ {c word under link tops blanks : List ℕ} {i k : ℕ} {x : List ℕ}
       count = u .zeros .count;
       room = omega (arith, s .room, pick-length (alphabet c) p);
       letters = all-pick (alphabet c) Lettered p (s .letters) .1;
-      runs = λ j l. meets-cut u (omega (arith, s .many, n .within)) (meets b j m l) refl l e
+      runs = λ j l. meets-cut u (omega (arith, s .many, n .within)) (letter-meets b j m l) refl l e
           (rw (proj-pick (alphabet c) 0 (j + 1) p) at (s .runs j l));
     }
 
@@ -141,7 +142,7 @@ module _ {c word under link tops blanks line : List ℕ} {p k : ℕ} {x : List �
         room = omega (arith, s .room);
         letters = (l, s .letters);
         runs = λ j h. meets-put u (omega (arith, s .room)) (s .unders) (s .links) (omega (arith, s .many, n .within))
-            (meets s n (getD word p 0) j m h) refl h (lettered-filler l) (s .runs j h);
+            (letter-meets s n (getD word p 0) j m h) refl h (lettered-filler l) (s .runs j h);
       }
 
 -- the stacks of places from p + 1 on are stacks of places from p on

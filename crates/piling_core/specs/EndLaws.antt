@@ -26,7 +26,7 @@ use Rattle.input_plan.specs.Lettered.{Lettered}
 use Rattle.input_plan.specs.LetteredLaws.{lettered-filler}
 use Rattle.array_counts.specs.First.{FirstWith}
 use Rattle.piling_read.specs.Reading.{lowest, beadsLeft, Left}
-use Rattle.piling_read.specs.LeftLaws.{line-count, left-shows}
+use Rattle.piling_read.specs.LeftLaws.{line-count, left-wide, left-shows}
 use Rattle.piling_core.specs.Peeling.{Pair, Movable, Moved}
 use Rattle.piling_core.specs.SliceLaws.{slice-snoc, slice-inner, slice-ends}
 
@@ -67,9 +67,6 @@ peels-own c {b} {y} {s} w =
     ∙ ap (λ (x : List ℕ). b ∷ (stack c k s ++ x)) u
 
 module _ {rows : List (List ℕ)} {heights c at y : List ℕ} (e : Left rows heights c at y) where
-  wide : (i : ℕ) → i < 24 → getD heights i 0 ≤ length (getD rows i [])
-  wide i l = omega (arith, e .room .high i l, e .room .shape .wide i l)
-
   -- a pair is a letter that can come first, and its undo then can come last
   pub pair-peels : (k : ℕ) → k < 24 → Pair rows heights at k
       → (commandOf (lowest rows at k) ≡ k + 1) × ((s : List ℕ) × Peels (alphabet c) (lowest rows at k) y s)
@@ -93,11 +90,11 @@ module _ {rows : List (List ℕ)} {heights c at y : List ℕ} (e : Left rows hei
           let above : List ℕ = slice (suc (getD at k 0)) (getD heights k 0) (getD rows k []) in
           let a : stack c (k + 1) y ≡ bottom ∷ above
           = sym (e .beads k l)
-          ∙ slice-cons (getD at k 0) (getD heights k 0) (getD rows k []) 0 (omega arith) (wide k l) in
+          ∙ slice-cons (getD at k 0) (getD heights k 0) (getD rows k []) 0 (omega arith) (left-wide e k l) in
           stack-read (alphabet c) 0 (k + 1) (reverse r)
           ∙ ap (stack c (k + 1)) (reverse-reverse r)
           ∙ proj-front-rest (alphabet c) 0 (k + 1) a m p
-          ∙ slice-snoc (suc (getD at k 0)) (getD heights k 0) (getD rows k []) (omega arith) (wide k l)
+          ∙ slice-snoc (suc (getD at k 0)) (getD heights k 0) (getD rows k []) (omega arith) (left-wide e k l)
           ∙ ap (λ (d : ℕ). middle ++ d ∷ []) (o .undo)
 
   -- where a letter can come first and its undo then last, its row has a pair
@@ -106,7 +103,7 @@ module _ {rows : List (List ℕ)} {heights c at y : List ℕ} (e : Left rows hei
   peels-pair {b} {s} w t k l m =
       let g : beadsLeft rows heights at k ≡ b ∷ (stack c (commandOf b) s ++ undone b ∷ [])
       = e .beads k l ∙ ap (λ (n : ℕ). stack c n y) (sym m) ∙ peels-own c w in
-      let (h, i, j) = slice-ends (getD at k 0) (getD heights k 0) (getD rows k []) (e .room .low k l) (wide k l)
+      let (h, i, j) = slice-ends (getD at k 0) (getD heights k 0) (getD rows k []) (e .room .low k l) (left-wide e k l)
       b (undone b) (stack c (commandOf b) s) g in
       record { two = h; letter = λ z. lettered-filler t (sym i ∙ z); undo = j ∙ ap undone (sym i) }
 
@@ -131,7 +128,7 @@ module _ {rows : List (List ℕ)} {heights c at y : List ℕ} (e : Left rows hei
         (getD heights i 0 ≡ getD at i 0 + (n + length (stack c (i + 1) s)) + n)
         × (slice (getD at i 0 + n) (getD heights i 0 - n) (getD rows i []) ≡ stack c (i + 1) s)
     peels-inner i h =
-        slice-inner (getD at i 0) (getD heights i 0) (getD rows i []) (e .room .low i h) (wide i h)
+        slice-inner (getD at i 0) (getD heights i 0) (getD rows i []) (e .room .low i h) (left-wide e i h)
         (getD (getD table k []) i 0) (bead c (i + 1) b) (stack c (i + 1) s) (bead c (i + 1) (undone b))
         (e .beads i h ∙ peels-stack c (i + 1) w) (line-letter i h) (line-undone i h)
 

@@ -1,6 +1,6 @@
 -- The loop that takes pairs off a piling: l letters are taken off in front, and the beads left are the stacks of the
 -- word y that is left.
-use Prim.Native.Nat.{ℕ, _+_, _-_, _*_, _<_, _≤_}
+use Prim.Native.Nat.{ℕ, _+_, _*_, _<_, _≤_}
 use mathlib.Core.Path.{_≡_, refl, _∙_, subst}
 use mathlib.Core.List.{List, [], _∷_, _++_, append-nil}
 use native.Mathlib.Omega.{arith}
@@ -16,7 +16,8 @@ use Rattle.piling_read.specs.Reading.{lowest, Room, Left}
 use Rattle.piling_core.specs.Peeling.{Pair, Movable, Moved, Peelable, Peeled}
 use Rattle.piling_core.specs.EndLaws.{pair-peels, no-pair-tight, peels-movable, peels-left}
 
-pub record Going (c : List ℕ) (rows : List (List ℕ)) (x before heights at lead : List ℕ) (l : ℕ) (y : List ℕ)
+-- l letters are taken off x in front, and y is what is left of it
+pub record Peeling (c : List ℕ) (rows : List (List ℕ)) (x before heights at lead : List ℕ) (l : ℕ) (y : List ℕ)
     : Type 0 where
   pub left : Left rows heights c at y
   pub long : length lead ≡ length before
@@ -25,9 +26,9 @@ pub record Going (c : List ℕ) (rows : List (List ℕ)) (x before heights at le
   pub kept : drop l lead ≡ drop l before
 
 module _ {c : List ℕ} {rows : List (List ℕ)} {x before heights at lead : List ℕ} {l : ℕ} {y : List ℕ}
-    (g : Going c rows x before heights at lead l y) where
-  pub going-end : {k : ℕ} → FirstWith (Pair rows heights at) k → 24 ≤ k → Peeled c rows x before heights at lead l y
-  going-end f h = record {
+    (g : Peeling c rows x before heights at lead l y) where
+  peeling-end : {k : ℕ} → FirstWith (Pair rows heights at) k → 24 ≤ k → Peeled c rows x before heights at lead l y
+  peeling-end f h = record {
     left = g .left;
     cores = subst (λ (u : List ℕ). Cores (alphabet c) x u y) (append-nil (take l lead))
         (g .cores [] y (bare (no-pair-tight (g .left) f h) (~-refl (alphabet c) y)));
@@ -36,18 +37,18 @@ module _ {c : List ℕ} {rows : List (List ℕ)} {x before heights at lead : Lis
   }
 
   module _ {k : ℕ} (f : FirstWith (Pair rows heights at) k) (h : k < 24) where
-    pub going-fits : length x ≤ 2 * length before → l < length lead
-    going-fits o =
+    peeling-fits : length x ≤ 2 * length before → l < length lead
+    peeling-fits o =
         let (m, (s, w)) = pair-peels (g .left) k h (f .found h) in
         omega (arith, g .long, g .count, peels-length (alphabet c) w)
 
     module _ {table : List (List ℕ)} (t : Conflicts c table) where
-      pub going-movable : Movable (getD table k []) heights at
-      going-movable = let (m, (s, w)) = pair-peels (g .left) k h (f .found h) in peels-movable (g .left) t h m w
+      peeling-movable : Movable (getD table k []) heights at
+      peeling-movable = let (m, (s, w)) = pair-peels (g .left) k h (f .found h) in peels-movable (g .left) t h m w
 
-      pub going-on : length x ≤ 2 * length before → {down up : List ℕ} → Moved (getD table k []) heights at down up
-          → (s : List ℕ) × Going c rows x before down up (set lead l (lowest rows at k)) (l + 1) s
-      going-on o {down} {up} d =
+      peeling-again : length x ≤ 2 * length before → {down up : List ℕ} → Moved (getD table k []) heights at down up
+          → (s : List ℕ) × Peeling c rows x before down up (set lead l (lowest rows at k)) (l + 1) s
+      peeling-again o {down} {up} d =
           let b : ℕ = lowest rows at k in
           let (m, (s, w)) = pair-peels (g .left) k h (f .found h) in (
             s,
@@ -56,7 +57,7 @@ module _ {c : List ℕ} {rows : List (List ℕ)} {x before heights at lead : Lis
               long = length-set lead l b ∙ g .long;
               count = omega (arith, g .count, peels-length (alphabet c) w);
               cores = λ v z q.
-                  subst (λ (u : List ℕ). Cores (alphabet c) x u z) (take-more lead v l b (going-fits o))
+                  subst (λ (u : List ℕ). Cores (alphabet c) x u z) (take-more lead v l b (peeling-fits o))
                   (g .cores (b ∷ v) z (peels-cores (alphabet c) w q));
               kept = drop-more lead before l b (g .kept);
             },
@@ -66,25 +67,25 @@ module _ {c : List ℕ} {rows : List (List ℕ)} {x before heights at lead : Lis
 pub record Taken (conflicts rows : List (List ℕ)) (heights₀ at₀ before heights at lead : List ℕ) (l k : ℕ)
     : Type 0 where
   pub first : FirstWith (Pair rows heights at) k
-  pub going : (c x : List ℕ) → Peelable c conflicts rows heights₀ at₀ x before
-      → (y : List ℕ) × Going c rows x before heights at lead l y
+  pub peeling : (c x : List ℕ) → Peelable c conflicts rows heights₀ at₀ x before
+      → (y : List ℕ) × Peeling c rows x before heights at lead l y
 
 pub taken-start : {conflicts rows : List (List ℕ)} {heights at lead : List ℕ} {k : ℕ}
     → FirstWith (Pair rows heights at) k → Taken conflicts rows heights at lead heights at lead 0 k
 taken-start f = record {
   first = f;
-  going = λ c x p. (x, record { left = p .left; long = refl; count = omega arith; cores = λ g z q. q; kept = refl });
+  peeling = λ c x p. (x, record { left = p .left; long = refl; count = omega arith; cores = λ g z q. q; kept = refl });
 }
 
 module _ {conflicts rows : List (List ℕ)} {heights₀ at₀ before heights at lead : List ℕ} {l k : ℕ}
     (w : Taken conflicts rows heights₀ at₀ before heights at lead l k) where
   pub taken-end : 24 ≤ k → (c x : List ℕ) → Peelable c conflicts rows heights₀ at₀ x before
       → (z : List ℕ) × Peeled c rows x before heights at lead l z
-  taken-end h c x p = let (y, g) = w .going c x p in (y, going-end g (w .first) h)
+  taken-end h c x p = let (y, g) = w .peeling c x p in (y, peeling-end g (w .first) h)
 
   pub taken-long : (c : List ℕ) × (x : List ℕ) × Peelable c conflicts rows heights₀ at₀ x before
       → length lead ≡ length before
-  taken-long (c, x, p) = w .going c x p .1 .long
+  taken-long (c, x, p) = w .peeling c x p .1 .long
 
   module _ (h : k < 24) where
     pub taken-again : {down up : List ℕ} {next : ℕ} → Moved (getD conflicts k []) heights at down up
@@ -92,22 +93,22 @@ module _ {conflicts rows : List (List ℕ)} {heights₀ at₀ before heights at 
         → Taken conflicts rows heights₀ at₀ before down up (set lead l (lowest rows at k)) (l + 1) next
     taken-again d f = record {
       first = f;
-      going = λ c x p. going-on (w .going c x p .1) (w .first) h (p .table) (p .fits) d;
+      peeling = λ c x p. peeling-again (w .peeling c x p .1) (w .first) h (p .table) (p .fits) d;
     }
 
     module _ (some : (c : List ℕ) × (x : List ℕ) × Peelable c conflicts rows heights₀ at₀ x before) where
       pub taken-index : getD at k 0 < 1024
       taken-index =
           let (c, x, p) = some in
-          omega (arith, w .first .found h .two, w .going c x p .1 .left .room .high k h)
+          omega (arith, w .first .found h .two, w .peeling c x p .1 .left .room .high k h)
 
       pub taken-fits : l < length lead
-      taken-fits = let (c, x, p) = some in going-fits (w .going c x p .1) (w .first) h (p .fits)
+      taken-fits = let (c, x, p) = some in peeling-fits (w .peeling c x p .1) (w .first) h (p .fits)
 
       pub taken-movable : Movable (getD conflicts k []) heights at
-      taken-movable = let (c, x, p) = some in going-movable (w .going c x p .1) (w .first) h (p .table)
+      taken-movable = let (c, x, p) = some in peeling-movable (w .peeling c x p .1) (w .first) h (p .table)
 
       pub taken-room : {down up : List ℕ} → Moved (getD conflicts k []) heights at down up → Room rows down up
       taken-room d =
           let (c, x, p) = some in
-          going-on (w .going c x p .1) (w .first) h (p .table) (p .fits) d .1 .left .room
+          peeling-again (w .peeling c x p .1) (w .first) h (p .table) (p .fits) d .1 .left .room

@@ -32,7 +32,7 @@ piled-peelable {z = z} lead t p h l =
 
 module _ {c : List ℕ} {rows : List (List ℕ)} {x before heights at lead : List ℕ} {r : ℕ} {z : List ℕ}
     (p : Peeled c rows x before heights at lead r z) (d : Reduced (alphabet c) x) where
-  pub peeled-reduced : Reduced (alphabet c) z
+  peeled-reduced : Reduced (alphabet c) z
   peeled-reduced = cores-reduced (alphabet c) (p .cores) d
 
   module _ (w : List ℕ) (e : _≈_ (alphabet c) x w) where

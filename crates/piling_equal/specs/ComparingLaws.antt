@@ -35,11 +35,11 @@ pub tells : {P : Type 0} → P → (true ≡ true) ↔ P
 tells p = (λ e. p, λ q. refl)
 
 -- the two cases of a byte
-pub undone-filler : (c : List ℕ) (b : ℕ) (z : List ℕ) → b ≡ 0 → undoneBy c b z ≡ z
+undone-filler : (c : List ℕ) (b : ℕ) (z : List ℕ) → b ≡ 0 → undoneBy c b z ≡ z
 unfolding undoneBy undoneBy-step
 undone-filler c b z e = rw (eq-eqb b 0 e)
 
-pub undone-letter : (c : List ℕ) (b : ℕ) (z : List ℕ) → ¬ (b ≡ 0) → undoneBy c b z ≡ act (alphabet c) (undone b) z
+undone-letter : (c : List ℕ) (b : ℕ) (z : List ℕ) → ¬ (b ≡ 0) → undoneBy c b z ≡ act (alphabet c) (undone b) z
 unfolding undoneBy undoneBy-step
 undone-letter c b z n = rw (ne-eqb b 0 n)
 
@@ -63,21 +63,21 @@ module _ {c : List ℕ} {conflicts rows : List (List ℕ)} {heights : List ℕ} 
   }
 
 module _ (c : List ℕ) (byte spare : ℕ) (z : List ℕ) {letter : ℕ} (e : letter ≡ undone byte) (n : ¬ (byte ≡ 0)) where
-  acted : undoneBy c byte z ≡ act (alphabet c) letter z
-  acted = undone-letter c byte z n ∙ ap (λ b. act (alphabet c) b z) (sym e)
+  undone-acts : undoneBy c byte z ≡ act (alphabet c) letter z
+  undone-acts = undone-letter c byte z n ∙ ap (λ b. act (alphabet c) b z) (sym e)
 
   pub cut-undone : {rows : List (List ℕ)} {heights : List ℕ} → First (alphabet c) (undone letter) z
       → Piled c rows heights (act (alphabet c) letter z) → Undone c rows heights byte spare z 0
   cut-undone f p = record {
-    spent = rw acted (omega (arith, act-falls (alphabet c) letter z f));
-    piled = λ l. rw acted p;
+    spent = rw undone-acts (omega (arith, act-falls (alphabet c) letter z f));
+    piled = λ l. rw undone-acts p;
   }
 
   pub put-undone : {rows : List (List ℕ)} {heights : List ℕ} → ¬ First (alphabet c) (undone letter) z
       → (2 ≤ spare → Piled c rows heights (letter ∷ z)) → Undone c rows heights byte spare z 2
   put-undone f p = record {
-    spent = rw acted (omega (arith, act-rises (alphabet c) letter z f));
-    piled = λ l. rw (acted, act-is (alphabet c) (put f)) (p l);
+    spent = rw undone-acts (omega (arith, act-rises (alphabet c) letter z f));
+    piled = λ l. rw (undone-acts, act-is (alphabet c) (put f)) (p l);
   }
 
 -- the bytes from place i on
@@ -127,7 +127,7 @@ module _ (c w : List ℕ) where
     pub spared : length word + spare ≡ i
     pub same : (z₀ ≈ reverse (letters w)) ↔ (word ≈ before i)
 
-  pub left-start : {rows : List (List ℕ)} {heights z₀ : List ℕ} {n : ℕ} → n ≤ length w → Counted c rows heights z₀ n
+  left-start : {rows : List (List ℕ)} {heights z₀ : List ℕ} {n : ℕ} → n ≤ length w → Counted c rows heights z₀ n
       → Reduced (alphabet c) z₀ → Left z₀ rows heights (length w - n) (length w)
   left-start {z₀ = z₀} l p r = record {
     word = z₀;
@@ -146,7 +146,7 @@ module _ (c w : List ℕ) where
         let s = undone-same (q .word) i l in
         (λ e. s .0 (q .same .0 e), λ e. q .same .1 (s .1 e))
 
-    pub left-again : r ≤ spare → Left z₀ rows′ heights′ (spare - r) i
+    left-again : r ≤ spare → Left z₀ rows′ heights′ (spare - r) i
     left-again k = record {
       word = undoneBy c (getD w i 0) (q .word);
       piled = u .piled k;
@@ -156,13 +156,13 @@ module _ (c w : List ℕ) where
     }
 
     -- what is left has more letters than the bytes before it
-    pub left-over : spare < r → ¬ (z₀ ≈ reverse (letters w))
+    left-over : spare < r → ¬ (z₀ ≈ reverse (letters w))
     left-over k e =
         let b = getD w i 0 in
         let h = same-short (undoneBy c b (q .word)) i (undone-reduced b (q .word) (q .reduced)) (same-again .0 e) in
         omega (arith, u .spent, q .spared)
 
-  pub left-none : {z₀ : List ℕ} {rows : List (List ℕ)} {heights : List ℕ} {spare : ℕ} → Left z₀ rows heights spare 0
+  left-none : {z₀ : List ℕ} {rows : List (List ℕ)} {heights : List ℕ} {spare : ℕ} → Left z₀ rows heights spare 0
       → z₀ ≈ reverse (letters w)
   unfolding letters filter
   left-none q = q .same .1 (go (q .word) (omega (arith, q .spared)))
@@ -192,8 +192,8 @@ module _ {w : List ℕ} {conflicts rows₀ : List (List ℕ)} {heights₀ : List
 
   module _ {rows : List (List ℕ)} {heights : List ℕ} {spare i : ℕ}
       (p : Undoing w conflicts rows₀ heights₀ n rows heights spare i) (l : 0 < i) where
-    last : i - 1 < length w
-    last = omega (arith, p .within)
+    last-place : i - 1 < length w
+    last-place = omega (arith, p .within)
 
     pub undoing-rest : {c z : List ℕ} → Opposed c w conflicts rows₀ heights₀ n z
         → Left c w z rows heights spare (i - 1 + 1)
@@ -205,7 +205,7 @@ module _ {w : List ℕ} {conflicts rows₀ : List (List ℕ)} {heights₀ : List
         → Undoable c conflicts rows heights (getD w (i - 1) 0) spare (undoing-rest o .word)
     undoing-undoable {c} o = record {
       few = o .few;
-      passing = passing-at (commands c) w (o .passing) (i - 1) last;
+      passing = passing-at (commands c) w (o .passing) (i - 1) last-place;
       table = o .table;
       piled = undoing-rest o .piled;
       room = omega (arith, undoing-rest o .spared, p .within, o .short);
@@ -217,12 +217,13 @@ module _ {w : List ℕ} {conflicts rows₀ : List (List ℕ)} {heights₀ : List
       pub undoing-again : r ≤ spare → Undoing w conflicts rows₀ heights₀ n rows′ heights′ (spare - r) (i - 1)
       undoing-again k = record {
         within = omega (arith, p .within);
-        left = λ c z o. left-again c w last (undoing-rest o) (u c (undoing-rest o .word) (undoing-undoable o)) k;
+        left = λ c z o. left-again c w last-place (undoing-rest o) (u c (undoing-rest o .word) (undoing-undoable o)) k;
       }
 
       pub undoing-over : spare < r → (c z : List ℕ) → Opposed c w conflicts rows₀ heights₀ n z
           → ¬ (Group._≈_ (alphabet c) z (reverse (letters w)))
-      undoing-over k c z o = left-over c w last (undoing-rest o) (u c (undoing-rest o .word) (undoing-undoable o)) k
+      undoing-over k c z o =
+          left-over c w last-place (undoing-rest o) (u c (undoing-rest o .word) (undoing-undoable o)) k
 
   pub undoing-end : {rows : List (List ℕ)} {heights : List ℕ} {spare i : ℕ} → i ≤ 0
       → Undoing w conflicts rows₀ heights₀ n rows heights spare i → (c z : List ℕ)

@@ -1,5 +1,4 @@
--- Undoing a plan on a piling.
-pub mod EngineLaws
+pub mod PassedLaws
 pub mod EqualLaws
 pub mod Comparing
 pub mod ComparingLaws

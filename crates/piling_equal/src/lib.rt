@@ -1,6 +1,5 @@
-// Comparing a piling with a plan: the plan's letters are undone on the piling from the last to the first, and the word
-// piled up is the plan's exactly if nothing is left.
-// The comparison of plans that have passed their checks, on a piling: a local array of rows beside an array of heights.
+// Whether two plans that have passed their checks have the same normal form: one is piled up, the letters of the other
+// are undone on the piling from the last to the first, and they are equal exactly if nothing is left.
 
 use piling_stacks::cancel;
 use piling_stacks::opposite;
@@ -12,45 +11,10 @@ ghost use mathlib.Core.List.{List, reverse};
 ghost use mathlib.Core.Logic.{_↔_};
 ghost use Rattle.theory_words.specs.Group.{_≈_};
 ghost use Rattle.spec.specs.Letters.{alphabet, letters, normalForm};
-ghost use Rattle.piling_equal.specs.Comparing.{Undoable, Undone, Opposed};
+ghost use Rattle.input_checks.specs.Passed.{Passed};
 ghost use Rattle.array_counts.specs.Blank.{blankHeights};
 ghost use Rattle.piling_stacks.specs.Blank.{blankRows};
-ghost use Rattle.input_checks.specs.Passed.{Passed};
-
-// Whether two plans have the same normal form: v is piled up in rows with no bead, and w is undone on it. The rows are
-// lent, so that the compiler has to take them to overlap the heights: it then changes eight heights at a time.
-fn same(
-    v: &[u8],
-    w: &[u8],
-    conflicts: &[[u16; 24]; 24],
-    rows: &mut [[u8; 1024]; 24],
-    heights: &mut [u16; 24],
-) -> bool
-    requires { ⌜ ((c : List ℕ) × Passed c (now conflicts) (now v) × Passed c (now conflicts) (now w)
-        × (now rows ≡ blankRows) × (now heights ≡ blankHeights)) ⌝ }
-    ensures { λ r. ⌜ ((c : List ℕ) → Passed c (now (conflicts .entry)) (now (v .entry))
-        → Passed c (now (conflicts .entry)) (now (w .entry))
-        → (r ≡ true) ↔ (normalForm c (now (v .entry)) ≡ normalForm c (now (w .entry)))) ⌝ }
-{
-    let n = piling_stacks::pile(v, conflicts, rows, heights);
-    equals(w, conflicts, rows, heights, n)
-}
-
-// Whether two plans have the same normal form. The shorter is piled up: where the lengths differ much, undoing the
-// other soon leaves too many letters.
-pub fn equal(v: &[u8], w: &[u8], conflicts: &[[u16; 24]; 24]) -> bool
-    requires { ⌜ ((c : List ℕ) × Passed c (now conflicts) (now v) × Passed c (now conflicts) (now w)) ⌝ }
-    ensures { λ r. ⌜ ((c : List ℕ) → Passed c (now (conflicts .entry)) (now (v .entry))
-        → Passed c (now (conflicts .entry)) (now (w .entry))
-        → (r ≡ true) ↔ (normalForm c (now (v .entry)) ≡ normalForm c (now (w .entry)))) ⌝ }
-{
-    let mut rows = piling_stacks::blank_rows();
-    let mut heights = array_counts::blank_heights();
-    if w.len() < v.len() {
-        return same(w, v, conflicts, &mut rows, &mut heights);
-    }
-    same(v, w, conflicts, &mut rows, &mut heights)
-}
+ghost use Rattle.piling_equal.specs.Comparing.{Undoable, Undone, Opposed};
 
 // Undoes one byte on a piling that has `spare` letters fewer than the plan has bytes up to this one. What of that is
 // spent: nothing where the letter cancels, one by a filler, two by a letter put on. It is put on only if two are spare.
@@ -111,4 +75,39 @@ pub fn equals(
         spare -= spent;
     }
     true
+}
+
+// Whether two plans have the same normal form: v is piled up in rows with no bead, and w is undone on it. The rows are
+// lent, so that the compiler has to take them to overlap the heights: it then changes eight heights at a time.
+fn same(
+    v: &[u8],
+    w: &[u8],
+    conflicts: &[[u16; 24]; 24],
+    rows: &mut [[u8; 1024]; 24],
+    heights: &mut [u16; 24],
+) -> bool
+    requires { ⌜ ((c : List ℕ) × Passed c (now conflicts) (now v) × Passed c (now conflicts) (now w)
+        × (now rows ≡ blankRows) × (now heights ≡ blankHeights)) ⌝ }
+    ensures { λ r. ⌜ ((c : List ℕ) → Passed c (now (conflicts .entry)) (now (v .entry))
+        → Passed c (now (conflicts .entry)) (now (w .entry))
+        → (r ≡ true) ↔ (normalForm c (now (v .entry)) ≡ normalForm c (now (w .entry)))) ⌝ }
+{
+    let n = piling_stacks::pile(v, conflicts, rows, heights);
+    equals(w, conflicts, rows, heights, n)
+}
+
+// Whether two plans have the same normal form. The shorter is piled up: where the lengths differ much, undoing the
+// other soon leaves too many letters.
+pub fn equal(v: &[u8], w: &[u8], conflicts: &[[u16; 24]; 24]) -> bool
+    requires { ⌜ ((c : List ℕ) × Passed c (now conflicts) (now v) × Passed c (now conflicts) (now w)) ⌝ }
+    ensures { λ r. ⌜ ((c : List ℕ) → Passed c (now (conflicts .entry)) (now (v .entry))
+        → Passed c (now (conflicts .entry)) (now (w .entry))
+        → (r ≡ true) ↔ (normalForm c (now (v .entry)) ≡ normalForm c (now (w .entry)))) ⌝ }
+{
+    let mut rows = piling_stacks::blank_rows();
+    let mut heights = array_counts::blank_heights();
+    if w.len() < v.len() {
+        return same(w, v, conflicts, &mut rows, &mut heights);
+    }
+    same(v, w, conflicts, &mut rows, &mut heights)
 }

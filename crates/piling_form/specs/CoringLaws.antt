@@ -1,4 +1,4 @@
--- From a piling to the form that is wanted.
+-- From a piling to the form that is wanted: what is left of it can be read off, and the bytes read are the form.
 use Prim.Native.Nat.{ℕ, _≤_, _*_}
 use mathlib.Core.Path.{_≡_, refl, sym, subst}
 use mathlib.Core.Bool.{Bool, true}
@@ -16,11 +16,12 @@ use Rattle.spec.specs.Letters.{letters, alphabet, normalForm}
 use Rattle.array_counts.specs.Blank.{blankHeights}
 use Rattle.piling_stacks.specs.Piling.{Piled}
 use Rattle.piling_stacks.specs.Pile.{reduced}
+use Rattle.piling_stacks.specs.PileLaws.{reduced-length}
 use Rattle.piling_read.specs.Reading.{Readable}
 use Rattle.piling_core.specs.Peeling.{Peelable, Peeled}
 use Rattle.piling_core.specs.PeeledLaws.{piled-peelable, peeled-core, peeled-normal}
 use Rattle.input_checks.specs.Passed.{Passed}
-use Rattle.piling_equal.specs.EngineLaws.{passed-lettered, reduced-length, reduced-word}
+use Rattle.piling_equal.specs.PassedLaws.{passed-lettered, reduced-word}
 use Rattle.spec.specs.Calls.{coreForm}
 use Rattle.piling_form.specs.Coring.{form, Remains, peeled, whole, CoreOf, FormOf, core, normal}
 
@@ -63,10 +64,10 @@ module _ (c plan : List ℕ) where
 
 module _ {c plan : List ℕ} {rows : List (List ℕ)} {lead heights at lead′ : List ℕ} {m : ℕ} {z : List ℕ}
     (q : Peeled c rows (reverse (reduced c plan)) lead heights at lead′ m z) where
-  cored : {area area′ : List ℕ} {n : ℕ} → length plan ≤ 2 * length lead → ReadOff c z area area′ n
+  peeled-core-of : {area area′ : List ℕ} {n : ℕ} → length plan ≤ 2 * length lead → ReadOff c z area area′ n
       → CoreOf c plan area lead area′ lead′ n m
   unfolding coreForm
-  cored l o =
+  peeled-core-of l o =
       let d = reverse-reduced c plan in
       let s = reduced-~ (alphabet c) (reverse (reduced c plan)) (reduce (alphabet c) (letters plan)) d
       (reduce-reduced (alphabet c) (letters plan))
@@ -80,11 +81,11 @@ module _ {c plan : List ℕ} {rows : List (List ℕ)} {lead heights at lead′ :
         kept = q .kept;
       }
 
-pub formed : {c plan : List ℕ} {rows : List (List ℕ)} {lead heights at : List ℕ} {b : Bool} {lead′ : List ℕ} {m : ℕ}
-    {z area area′ : List ℕ} {n : ℕ} → Remains c rows (reverse (reduced c plan)) lead heights at b lead′ m z
+pub remains-form : {c plan : List ℕ} {rows : List (List ℕ)} {lead heights at : List ℕ} {b : Bool} {lead′ : List ℕ}
+    {m : ℕ} {z area area′ : List ℕ} {n : ℕ} → Remains c rows (reverse (reduced c plan)) lead heights at b lead′ m z
     → length plan ≤ 2 * length lead → ReadOff c z area area′ n → FormOf c plan area lead b area′ lead′ n m
-formed (peeled q) l o = core (cored q l o)
-formed {c} {plan} (whole q) l o = normal (rw (read-normal c plan) at o)
+remains-form (peeled q) l o = core (peeled-core-of q l o)
+remains-form {c} {plan} (whole q) l o = normal (rw (read-normal c plan) at o)
 
 -- for callers: the form that is wanted, and the core
 

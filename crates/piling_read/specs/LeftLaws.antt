@@ -1,5 +1,5 @@
--- What is left of a piling: a row that is ready shows a letter that can come first, and a letter takes one bead off each
--- row whose command conflicts with it.
+-- What is left of a piling: a row that is ready shows a letter that can come first, and a letter takes one bead off
+-- each row whose command conflicts with it.
 use Prim.Native.Nat.{ℕ, suc, _+_, _-_, _<_, _≤_}
 use mathlib.Core.Path.{_≡_, refl, sym, _∙_, ap, subst}
 use mathlib.Core.Bool.{Bool, true, false}
@@ -24,7 +24,7 @@ use Rattle.array_row.specs.ReadOffLaws.{Shows}
 use Rattle.piling_read.specs.Reading.{lowest, beadsLeft, Ready, Left}
 
 -- a letter puts one bead on a stack whose command conflicts with it
-pub mark-count : (c : List ℕ) (k b : ℕ) → length (mark (alphabet c) 0 k b) ≡ bit (conflict c k (commandOf b))
+mark-count : (c : List ℕ) (k b : ℕ) → length (mark (alphabet c) 0 k b) ≡ bit (conflict c k (commandOf b))
 unfolding mark mark-step
 mark-count c k b = go (conflict c k (commandOf b)) (eqb (commandOf b) k)
   where
@@ -41,7 +41,7 @@ line-count {c} k b t l m i h =
     ∙ sym (mark-count c (i + 1) b)
 
 module _ {rows : List (List ℕ)} {heights c at y : List ℕ} (e : Left rows heights c at y) where
-  left-wide : (i : ℕ) → i < 24 → getD heights i 0 ≤ length (getD rows i [])
+  pub left-wide : (i : ℕ) → i < 24 → getD heights i 0 ≤ length (getD rows i [])
   left-wide i l = omega (arith, e .room .high i l, e .room .shape .wide i l)
 
   left-count : (i : ℕ) → i < 24 → length (beadsLeft rows heights at i) ≡ getD heights i 0 - getD at i 0

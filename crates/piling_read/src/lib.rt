@@ -1,4 +1,5 @@
-// Reading a piling: the letters in order, taken off the bottoms of its stacks.
+// Reading a piling off: its letters in order, taken off the bottoms of its stacks. The next is each time the lowest
+// bead of the first row whose lowest bead is no blank.
 
 ghost use Prim.Native.Nat.{ℕ};
 ghost use mathlib.Core.List.{List};

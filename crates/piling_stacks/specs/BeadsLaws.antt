@@ -24,7 +24,7 @@ length-snoc s b = length-append s (b ∷ [])
 pub beads-fit : {row s : List ℕ} {h : ℕ} → Beads row h s → h ≤ 1024
 beads-fit {row} {s} {h} r = omega (arith, length-take h row, ap length (r .stack), r .height, r .wide)
 
-pub beads-add : {row s : List ℕ} {h : ℕ} (b : ℕ) → h < 1024 → Beads row h s → Beads (set row h b) (h + 1) (s ++ b ∷ [])
+beads-add : {row s : List ℕ} {h : ℕ} (b : ℕ) → h < 1024 → Beads row h s → Beads (set row h b) (h + 1) (s ++ b ∷ [])
 beads-add {row} {s} {h} b l r = record {
   wide = length-set row h b ∙ r .wide;
   stack = rw add-one (take-suc-set row h b (omega (arith, r .wide)) ∙ ap (λ (t : List ℕ). t ++ b ∷ []) (r .stack));
@@ -35,7 +35,7 @@ beads-add {row} {s} {h} b l r = record {
 set-same : (row : List ℕ) (j b : ℕ) → getD row j 0 ≡ b → set row j b ≡ row
 set-same row j b e = ap (set row j) (sym e) ∙ set-getD row j 0
 
-pub beads-blank : {row s : List ℕ} {h : ℕ} → h < 1024 → Beads row h s → Beads row (h + 1) (s ++ 0 ∷ [])
+beads-blank : {row s : List ℕ} {h : ℕ} → h < 1024 → Beads row h s → Beads row (h + 1) (s ++ 0 ∷ [])
 beads-blank {row} {s} {h} l r =
     let e : set row h 0 ≡ row = set-same row h 0 (r .above h (omega arith)) in
     subst (λ (t : List ℕ). Beads t (h + 1) (s ++ 0 ∷ [])) e (beads-add 0 l r)
@@ -46,7 +46,7 @@ beads-top {row} {h} s b r =
     ∙ ap (λ (t : List ℕ). getD t (h - 1) 0) (r .stack)
     ∙ getD-at s b [] 0 (h - 1) (omega (arith, length-snoc s b, r .height))
 
-pub beads-off : {row : List ℕ} {h : ℕ} (s : List ℕ) (b : ℕ) → Beads row h (s ++ b ∷ [])
+beads-off : {row : List ℕ} {h : ℕ} (s : List ℕ) (b : ℕ) → Beads row h (s ++ b ∷ [])
     → Beads (set row (h - 1) 0) (h - 1) s
 beads-off {row} {h} s b r = record {
   wide = length-set row (h - 1) 0 ∙ r .wide;
@@ -63,7 +63,7 @@ beads-off {row} {h} s b r = record {
         rw (sym e) (getD-set-same row (h - 1) 0 0 (omega (arith, beads-fit r, length-snoc s b, r .height, r .wide)))
     go j (inr l) = getD-set-other row (h - 1) j 0 0 (λ e. omega arith) ∙ r .above j (omega arith)
 
-pub beads-unblank : {row : List ℕ} {h : ℕ} (s : List ℕ) → Beads row h (s ++ 0 ∷ []) → Beads row (h - 1) s
+beads-unblank : {row : List ℕ} {h : ℕ} (s : List ℕ) → Beads row h (s ++ 0 ∷ []) → Beads row (h - 1) s
 beads-unblank {row} {h} s r =
     subst (λ (t : List ℕ). Beads t (h - 1) s) (set-same row (h - 1) 0 (beads-top s 0 r)) (beads-off s 0 r)
 

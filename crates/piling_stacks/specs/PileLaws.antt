@@ -10,8 +10,7 @@ use lib.Seq.{take-suc, take-all}
 use borrow.Author.Tests.{eq-eqb, ne-eqb}
 use Rattle.theory_words.specs.Filter.{filter}
 use Rattle.theory_words.specs.Reduce.{act, reduce}
-use Rattle.theory_words.specs.ReduceLaws.{reduce-least}
-use Rattle.theory_words.specs.GroupLaws.{≈-refl}
+use Rattle.theory_words.specs.ReduceLaws.{reduce-length}
 use Rattle.spec.specs.Catalogue.{commands}
 use Rattle.input_conflicts.specs.Conflicts.{Conflicts}
 use Rattle.spec.specs.Plan.{passes}
@@ -25,10 +24,9 @@ use Rattle.piling_stacks.specs.Piling.{Piled, Counted}
 use Rattle.piling_stacks.specs.Push.{Facing, Ready}
 use Rattle.piling_stacks.specs.Pile.{Given, reduced}
 
-reduced-length : (c v : List ℕ) → length (reduced c v) ≤ length v
+pub reduced-length : (c v : List ℕ) → length (reduced c v) ≤ length v
 reduced-length c v =
-    let w = reverse (letters v) in
-    omega (arith, reduce-least (alphabet c) w w (≈-refl (alphabet c) w), length-reverse (letters v), letters-length v)
+    omega (arith, reduce-length (alphabet c) (reverse (letters v)), length-reverse (letters v), letters-length v)
 
 -- one byte more: a plan's word backwards is as it was, or has the byte before it
 module _ (v : List ℕ) (i : ℕ) (l : i < length v) where

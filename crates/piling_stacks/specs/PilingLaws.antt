@@ -43,12 +43,12 @@ beads-piled {c} {z = z} t m b = record {
 
 module _ {c : List ℕ} {rows : List (List ℕ)} {heights line : List ℕ} {k letter : ℕ} {z : List ℕ}
     (r : Facing c rows heights line k letter z) where
-  inside : k < length rows
-  inside = omega (arith, r .within, r .piled .shape .tall)
+  row-inside : k < length rows
+  row-inside = omega (arith, r .within, r .piled .shape .tall)
 
   -- a letter of the same command meets the stacks that the line tells
-  meets : (b i : ℕ) → commandOf b ≡ k + 1 → i < 24 → Meets k b i (getD line i 0) (mark (alphabet c) 0 (i + 1) b)
-  meets b i e l = meets-line c k b i (getD line i 0) e (r .tells i l)
+  letter-meets : (b i : ℕ) → commandOf b ≡ k + 1 → i < 24 → Meets k b i (getD line i 0) (mark (alphabet c) 0 (i + 1) b)
+  letter-meets b i e l = meets-line c k b i (getD line i 0) e (r .tells i l)
 
   own-undone : commandOf (undone letter) ≡ k + 1
   own-undone = command-undone letter ∙ r .own
@@ -82,13 +82,13 @@ module _ {c : List ℕ} {rows : List (List ℕ)} {heights line : List ℕ} {k le
   put-room = record {
     many = r .piled .shape .many;
     wide = r .wide;
-    holds = λ i l. omega (arith, facing-high i l, meets-one (meets letter i (r .own) l));
+    holds = λ i l. omega (arith, facing-high i l, meets-one (letter-meets letter i (r .own) l));
   }
 
   -- the stacks, with what the undo put on them apart
-  off : {v : List ℕ} → Pick (alphabet c) (undone letter) z v → (i : ℕ) → i < 24
+  beads-apart : {v : List ℕ} → Pick (alphabet c) (undone letter) z v → (i : ℕ) → i < 24
       → Beads (getD rows i []) (getD heights i 0) (stackOf c i v ++ mark (alphabet c) 0 (i + 1) (undone letter))
-  off p i l = rw (stack-pick (alphabet c) 0 (i + 1) p) at (piled-beads (r .piled) i l)
+  beads-apart p i l = rw (stack-pick (alphabet c) 0 (i + 1) p) at (piled-beads (r .piled) i l)
 
   pub cut-room : First (alphabet c) (undone letter) z → Both (λ h n. n ≤ h) heights line
   cut-room (v, p) = record {
@@ -96,26 +96,27 @@ module _ {c : List ℕ} {rows : List (List ℕ)} {heights line : List ℕ} {k le
     wide = r .wide;
     holds = λ i l. omega (
       arith,
-      off p i l .height,
+      beads-apart p i l .height,
       length-append (stackOf c i v) (mark (alphabet c) 0 (i + 1) (undone letter)),
-      meets-length (meets (undone letter) i own-undone l),
+      meets-length (letter-meets (undone letter) i own-undone l),
     );
   }
 
   -- rows with one bead written, and heights changed, are a piling if each row is
-  changed : {f : ℕ → ℕ → ℕ} {last : List ℕ} (h b : ℕ) (v : List ℕ) → Changed f line heights last
+  changed-piled : {f : ℕ → ℕ → ℕ} {last : List ℕ} (h b : ℕ) (v : List ℕ) → Changed f line heights last
       → ((i : ℕ) → i < 24
       → Beads (getD (written rows k h b) i []) (f (getD heights i 0) (getD line i 0)) (stackOf c i v))
       → Piled c (written rows k h b) last v
-  changed h b v m g = beads-piled
+  changed-piled h b v m g = beads-piled
       (length-set rows k (set (getD rows k []) h b) ∙ r .piled .shape .tall)
       (m .kept ∙ r .piled .shape .many)
       (λ i l. rw (m .each i l) (g i l))
 
   cut-piled : {last v : List ℕ} → Pick (alphabet c) (undone letter) z v → Changed _-_ line heights last
       → Piled c (written rows k (getD heights k 0 - 1) 0) last v
-  cut-piled {v = v} p m = changed (getD heights k 0 - 1) 0 v m λ i l.
-      meets-off rows heights k inside (stackOf c i v) (meets (undone letter) i own-undone l) (off p i l)
+  cut-piled {v = v} p m = changed-piled (getD heights k 0 - 1) 0 v m λ i l.
+      meets-off rows heights k row-inside (stackOf c i v) (letter-meets (undone letter) i own-undone l)
+      (beads-apart p i l)
 
   pub cut-acts : First (alphabet c) (undone letter) z → {last : List ℕ} → Changed _-_ line heights last
       → Piled c (written rows k (getD heights k 0 - 1) 0) last (act (alphabet c) letter z)
@@ -128,10 +129,10 @@ module _ {c : List ℕ} {rows : List (List ℕ)} {heights line : List ℕ} {k le
 
   pub put-piled : {last : List ℕ} → Changed _+_ line heights last
       → Piled c (written rows k (getD heights k 0) letter) last (letter ∷ z)
-  put-piled m = changed (r .facing) (getD heights k 0) letter (letter ∷ z) m λ i l.
+  put-piled m = changed-piled (r .facing) (getD heights k 0) letter (letter ∷ z) m λ i l.
       rw (stack-push (alphabet c) 0 (i + 1) letter z)
-      (meets-add rows heights k (inside (r .facing)) (meets (r .facing) letter i (r .facing .own) l) (ready-room i l)
-      (piled-beads (r .facing .piled) i l))
+      (meets-add rows heights k (row-inside (r .facing)) (letter-meets (r .facing) letter i (r .facing .own) l)
+      (ready-room i l) (piled-beads (r .facing .piled) i l))
 
 -- the two ends of cancelling
 module _ {c : List ℕ} {rows : List (List ℕ)} {heights : List ℕ} {letter : ℕ} {z : List ℕ} where

@@ -1,4 +1,4 @@
--- `long_reduction::reduce` meets its contract. The loop's invariant: the stacks are those of the word from place i on,
+-- `long_form::reduce` meets its contract. The loop's invariant: the stacks are those of the word from place i on,
 -- reduced. Assumes nothing.
 use native.Mathlib.Omega.{arith}
 use mathlib.Core.Path.{refl}

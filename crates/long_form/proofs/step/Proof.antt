@@ -1,4 +1,4 @@
--- `long_reduction::step` meets its contract: a filler, a letter that is cut off with its undo, a letter that is put on.
+-- `long_form::step` meets its contract: a filler, a letter that is cut off with its undo, a letter that is put on.
 -- Assumes nothing.
 use native.Mathlib.Omega.{arith}
 use mathlib.Core.Path.{refl, sym, _∙_}

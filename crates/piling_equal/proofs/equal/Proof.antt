@@ -1,4 +1,4 @@
--- `engine::equal` meets its contract: the answer is the same for the plans exchanged.
+-- `piling_equal::equal` meets its contract: the answer is the same for the plans exchanged.
 use mathlib.Core.Path.{sym}
 use borrow.Author.Needs.{needs}
 use Rattle.piling_equal.proofs.equal.Statement.{statement}

@@ -1,10 +1,10 @@
--- `engine::same` meets its contract.
+-- `piling_equal::same` meets its contract: the piling of v, on which w is undone.
 use Prim.Native.Nat.{ℕ}
 use mathlib.Core.List.{List}
 use Rattle.piling_stacks.specs.Pile.{reduced}
 use Rattle.piling_equal.specs.Comparing.{Opposed}
 use Rattle.input_checks.specs.Passed.{Passed}
-use Rattle.piling_equal.specs.EngineLaws.{passed-given}
+use Rattle.piling_equal.specs.PassedLaws.{passed-given}
 use Rattle.piling_equal.specs.EqualLaws.{passed-opposed, same-normal}
 use Rattle.piling_equal.proofs.same.Statement.{statement}
 use Rattle.piling_equal.proofs.same.Tie as tie

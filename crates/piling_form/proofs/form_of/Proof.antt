@@ -4,8 +4,8 @@ use mathlib.Core.List.{List, reverse}
 use Rattle.piling_stacks.specs.Pile.{reduced}
 use Rattle.piling_core.specs.Peeling.{Peelable}
 use Rattle.input_checks.specs.Passed.{Passed}
-use Rattle.piling_equal.specs.EngineLaws.{passed-given}
-use Rattle.piling_form.specs.CoringLaws.{passed-peelable, remains-readable, formed}
+use Rattle.piling_equal.specs.PassedLaws.{passed-given}
+use Rattle.piling_form.specs.CoringLaws.{passed-peelable, remains-readable, remains-form}
 use borrow.Author.Needs.{needs}
 use Rattle.piling_form.proofs.form_of.Statement.{statement}
 use Rattle.piling_form.proofs.form_of.Tie as tie
@@ -63,7 +63,7 @@ returns c =
     let s = start (a .before .before .before .before .before .before) in
     λ k p.
     let q = e .peel-if .ensures k (reverse (reduced k (s .args .plan .now))) (peelable a k p) in
-    formed (q .1) (s .pre .2 .deep)
+    remains-form (q .1) (s .pre .2 .deep)
     (o .read-off .ensures k (q .0) (remains-readable p (s .args .area .now) (q .1) (s .pre .2 .wide)))
 
 pub form-of-spec : {M : Type 1} → statement M

@@ -1,19 +1,18 @@
 -- A plan that has passed can be piled up, and the word that is then piled.
-use Prim.Native.Nat.{ℕ, _≤_}
+use Prim.Native.Nat.{ℕ}
 use mathlib.Core.Path.{_≡_, sym, subst, subst₂}
 use mathlib.Core.List.{List, [], reverse, reverse-reverse}
 use mathlib.Core.Bool.{true}
 use native.Mathlib.Omega.{arith}
-use lib.ListN.{length, length-reverse}
 use Rattle.theory_words.specs.All.{All, all-map, all-reverse}
 use Rattle.theory_words.specs.Group as Group
 use Rattle.theory_words.specs.GroupLaws.{≈-reverse}
-use Rattle.theory_words.specs.ReduceLaws.{reduce-≈, reduce-length}
+use Rattle.theory_words.specs.ReduceLaws.{reduce-≈}
 use Rattle.theory_words.specs.LetterLaws.{all-reduce}
 use Rattle.spec.specs.Catalogue.{commands}
 use Rattle.spec.specs.Plan.{isCommand}
 use Rattle.spec.specs.Letters.{letters, alphabet}
-use Rattle.spec_laws.specs.LettersLaws.{letters-commands, letters-length}
+use Rattle.spec_laws.specs.LettersLaws.{letters-commands}
 use Rattle.spec_laws.specs.CommandLaws.{command-range}
 use Rattle.input_plan.specs.Lettered.{Lettered}
 use Rattle.piling_stacks.specs.Piling.{Piled}
@@ -50,10 +49,6 @@ module _ (c v : List ℕ) where
   infix 20 _≈_
   abbrev _≈_ : List ℕ → List ℕ → Type 0
   _≈_ = Group._≈_ (alphabet c)
-
-  pub reduced-length : length (reduced c v) ≤ length v
-  reduced-length =
-      omega (arith, reduce-length (alphabet c) (reverse (letters v)), length-reverse (letters v), letters-length v)
 
   pub reduced-word : reverse (reduced c v) ≈ letters v
   reduced-word =
