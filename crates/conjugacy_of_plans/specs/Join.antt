@@ -10,7 +10,7 @@ use Rattle.spec.specs.Letters.{letters, alphabet, normalForm}
 use Rattle.spec_laws.specs.LettersLaws.{Commands}
 use Rattle.input_checks.specs.Passed.{Passed}
 use Rattle.spec.specs.Loops.{LeadIn, leadInRoom}
-use Rattle.conjugacy_of_plans.specs.Stripped.{Stripped}
+use Rattle.conjugacy_of_plans.specs.CoreAndLead.{CoreAndLead}
 use Rattle.conjugacy_of_parts.specs.declared.Outcome.{Outcome}
 use Rattle.conjugacy_of_parts.specs.declared.Outcome.the-variants.{Joined, Apart, Unsettled}
 
@@ -24,8 +24,8 @@ pub record Plans (c : List ℕ) (conflicts : List (List ℕ)) (v w : List ℕ) (
 pub record Cores (c : List ℕ) (conflicts : List (List ℕ)) (v w core1 lead1 core2 lead2 : List ℕ) (n : ℕ)
     : Type 0 where
   pub plans : Plans c conflicts v w n
-  pub first : Stripped c v core1 lead1
-  pub second : Stripped c w core2 lead2
+  pub first : CoreAndLead c v core1 lead1
+  pub second : CoreAndLead c w core2 lead2
 
 -- the room that the word from one plan to the other needs, with n commands
 abbrev pub wordRoom : ℕ → List ℕ → List ℕ → List ℕ → List ℕ → ℕ
@@ -54,13 +54,13 @@ pub data PlansOutcome (c v w area : List ℕ) : Outcome → List ℕ → Type 0 
   apart : joined? (alphabet c) (letters v) (letters w) ≡ false → PlansOutcome c v w area Apart area
 
 -- for some plans with these cores: the word between them needs at most so much room, and the area holds a lead-in
-abbrev pub StrippedRoom : List (List ℕ) → List ℕ → List ℕ → List ℕ → List ℕ → ℕ → ℕ → List ℕ → Type 0
-StrippedRoom conflicts core1 lead1 core2 lead2 n most area =
+abbrev pub FormRoom : List (List ℕ) → List ℕ → List ℕ → List ℕ → List ℕ → ℕ → ℕ → List ℕ → Type 0
+FormRoom conflicts core1 lead1 core2 lead2 n most area =
     (c : List ℕ) × (v : List ℕ) × (w : List ℕ) × Cores c conflicts v w core1 lead1 core2 lead2 n
     × (wordRoom n core1 lead1 core2 lead2 ≤ most) × (n * (length v + length w) ≤ length area)
 
 -- for all plans with these cores: what the outcome says of them and the final area
-abbrev pub StrippedOutcome : List (List ℕ) → List ℕ → List ℕ → List ℕ → List ℕ → ℕ → List ℕ → Outcome
+abbrev pub FormOutcome : List (List ℕ) → List ℕ → List ℕ → List ℕ → List ℕ → ℕ → List ℕ → Outcome
     → List ℕ → Type 0
-StrippedOutcome conflicts core1 lead1 core2 lead2 n area r after =
+FormOutcome conflicts core1 lead1 core2 lead2 n area r after =
     (c v w : List ℕ) → Cores c conflicts v w core1 lead1 core2 lead2 n → PlansOutcome c v w area r after

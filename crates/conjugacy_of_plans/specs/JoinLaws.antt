@@ -25,18 +25,18 @@ use Rattle.conjugacy_of_parts.specs.declared.Outcome.the-variants.{Joined, Apar
 use Rattle.conjugacy_of_parts.specs.Outcomes.{Stops}
 use Rattle.conjugacy_of_cores.specs.Pair.{Coreable, CoresJoined, CoresOutcome}
 use Rattle.input_checks.specs.Passed.{Passed}
-use Rattle.conjugacy_of_plans.specs.VerdictLaws.{through, through-count}
-use Rattle.conjugacy_of_plans.specs.Stripped.{Stripped}
-use Rattle.conjugacy_of_plans.specs.StrippedLaws.{core-~, off-length, off-commands, no-letters}
-use Rattle.conjugacy_of_plans.specs.StrippedLaws.{through-joined, through-commands, through-room, through-short}
-use Rattle.conjugacy_of_plans.specs.StrippedLaws.{through-lead-in, cores-joined-plans}
+use Rattle.conjugacy_of_plans.specs.ThroughLaws.{through, through-count}
+use Rattle.conjugacy_of_plans.specs.CoreAndLead.{CoreAndLead}
+use Rattle.conjugacy_of_plans.specs.CoreAndLeadLaws.{core-~, off-length, off-commands, no-letters, through-joined}
+use Rattle.conjugacy_of_plans.specs.CoreAndLeadLaws.{through-commands, through-room, through-short}
+use Rattle.conjugacy_of_plans.specs.CoreAndLeadLaws.{through-lead-in, cores-joined-plans}
 use Rattle.conjugacy_of_plans.specs.Join.{Plans, Cores, wordRoom, WordJoined, WordOutcome}
 use Rattle.conjugacy_of_plans.specs.Join.{PlansOutcome, joined, apart}
 
 -- a plan's core is cyclically reduced
-pub stripped-cyclic : {c : List ℕ} {conflicts : List (List ℕ)} {v x g : List ℕ} → Passed c conflicts v
-    → Stripped c v x g → Cyclic c conflicts x
-stripped-cyclic {c} {v = v} p k = record {
+pub core-cyclic : {c : List ℕ} {conflicts : List (List ℕ)} {v x g : List ℕ} → Passed c conflicts v
+    → CoreAndLead c v x g → Cyclic c conflicts x
+core-cyclic {c} {v = v} p k = record {
   table = p .table;
   few = p .few;
   letters = off-commands c k (p .passing) .1;
@@ -72,8 +72,8 @@ module _ {c : List ℕ} {conflicts : List (List ℕ)} {v w x g y h : List ℕ} {
 
     pub join-coreable : {row′ : List ℕ} {at : ℕ} → Appended row 0 g row′ at → Coreable c conflicts x y n row′ at
     join-coreable a = record {
-      first = stripped-cyclic (p .first) (k .first);
-      second = stripped-cyclic (p .second) (k .second);
+      first = core-cyclic (p .first) (k .first);
+      second = core-cyclic (p .second) (k .second);
       enough = p .many;
       room =
           let l = lead-and-cycled-room in

@@ -1,7 +1,7 @@
 pub mod CoresLaws
 pub mod RoomLaws
-pub mod VerdictLaws
-pub mod Stripped
-pub mod StrippedLaws
+pub mod ThroughLaws
+pub mod CoreAndLead
+pub mod CoreAndLeadLaws
 pub mod Join
 pub mod JoinLaws

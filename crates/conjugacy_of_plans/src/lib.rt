@@ -13,7 +13,7 @@ ghost use Prim.Native.Nat.{ℕ, _≤_, _+_, _*_};
 ghost use mathlib.Core.List.{List};
 ghost use lib.ListN.{length};
 ghost use Rattle.conjugacy_of_plans.specs.Join.{Plans, Cores, wordRoom, WordOutcome};
-ghost use Rattle.conjugacy_of_plans.specs.Join.{StrippedRoom, StrippedOutcome, PlansOutcome};
+ghost use Rattle.conjugacy_of_plans.specs.Join.{FormRoom, FormOutcome, PlansOutcome};
 
 // Whether the plans with these cores are joined, and the lead-in as a word at the start of the row, not yet in normal
 // form.
@@ -53,9 +53,9 @@ fn lead_in_form(
     row: &mut [u8],
     area: &mut [u8],
 ) -> Outcome
-    requires { ⌜ StrippedRoom (now conflicts) (now core1) (now lead1) (now core2) (now lead2) commands
+    requires { ⌜ FormRoom (now conflicts) (now core1) (now lead1) (now core2) (now lead2) commands
         (length (now row)) (now area) ⌝ }
-    ensures { λ r. ⌜ StrippedOutcome (now (conflicts .entry)) (now (core1 .entry)) (now (lead1 .entry))
+    ensures { λ r. ⌜ FormOutcome (now (conflicts .entry)) (now (core1 .entry)) (now (lead1 .entry))
         (now (core2 .entry)) (now (lead2 .entry)) commands (now (area .entry)) r (now (area .exit)) ⌝ }
 {
     let way = lead_in_word(core1, lead1, core2, lead2, commands, conflicts, row);
@@ -65,72 +65,37 @@ fn lead_in_form(
     Outcome::Joined(form(&row[..end], conflicts, area))
 }
 
-// As `lead_in_form`, with a row of its own: the shortest that suffices, so that short cores clear little.
-fn join_stripped(
+// As `lead_in_form`, for n commands, with a row of its own: the shortest that suffices, so that short
+// cores clear little.
+fn join_by_cores(
     core1: &[u8],
     lead1: &[u8],
     core2: &[u8],
     lead2: &[u8],
-    commands: usize,
+    n: usize,
     conflicts: &[[u16; 24]; 24],
     area: &mut [u8],
 ) -> Outcome
-    requires { ⌜ StrippedRoom (now conflicts) (now core1) (now lead1) (now core2) (now lead2) commands 49152
+    requires { ⌜ FormRoom (now conflicts) (now core1) (now lead1) (now core2) (now lead2) n 49152
         (now area) ⌝ }
-    ensures { λ r. ⌜ StrippedOutcome (now (conflicts .entry)) (now (core1 .entry)) (now (lead1 .entry))
-        (now (core2 .entry)) (now (lead2 .entry)) commands (now (area .entry)) r (now (area .exit)) ⌝ }
+    ensures { λ r. ⌜ FormOutcome (now (conflicts .entry)) (now (core1 .entry)) (now (lead1 .entry))
+        (now (core2 .entry)) (now (lead2 .entry)) n (now (area .entry)) r (now (area .exit)) ⌝ }
 {
-    let need = commands * (2 * lead1.len() + core1.len() + (2 * lead2.len() + core2.len()));
+    let need = n * (2 * lead1.len() + core1.len() + (2 * lead2.len() + core2.len()));
     if need <= 2048 {
         let mut row = array_row::short_row();
-        return lead_in_form(
-            core1,
-            lead1,
-            core2,
-            lead2,
-            commands,
-            conflicts,
-            &mut row,
-            area,
-        );
+        return lead_in_form(core1, lead1, core2, lead2, n, conflicts, &mut row, area);
     }
     if need <= 8192 {
         let mut row = array_row::middle_row();
-        return lead_in_form(
-            core1,
-            lead1,
-            core2,
-            lead2,
-            commands,
-            conflicts,
-            &mut row,
-            area,
-        );
+        return lead_in_form(core1, lead1, core2, lead2, n, conflicts, &mut row, area);
     }
     if need <= 24576 {
         let mut row = array_row::wide_row();
-        return lead_in_form(
-            core1,
-            lead1,
-            core2,
-            lead2,
-            commands,
-            conflicts,
-            &mut row,
-            area,
-        );
+        return lead_in_form(core1, lead1, core2, lead2, n, conflicts, &mut row, area);
     }
     let mut row = array_row::blank_row();
-    lead_in_form(
-        core1,
-        lead1,
-        core2,
-        lead2,
-        commands,
-        conflicts,
-        &mut row,
-        area,
-    )
+    lead_in_form(core1, lead1, core2, lead2, n, conflicts, &mut row, area)
 }
 
 // Whether two plans are joined, with so many commands, and the lead-in at the start of the area.
@@ -152,7 +117,7 @@ pub fn join_plans(
     let mut core2 = sheet();
     let mut lead2 = sheet();
     let two = form_of(w, conflicts, &mut core2, &mut lead2, true);
-    join_stripped(
+    join_by_cores(
         &core1[..one.form],
         &lead1[..one.lead],
         &core2[..two.form],

@@ -9,11 +9,32 @@ use Rattle.piling_form.specs.Coring.{CoreOf}
 use Rattle.piling_form.specs.CoringLaws.{core-of}
 use Rattle.conjugacy_of_plans.specs.Join.{Plans, Cores}
 use Rattle.conjugacy_of_plans.specs.RoomLaws.{cores-room}
-use Rattle.conjugacy_of_plans.specs.CoresLaws.{core-of-stripped, lead-count, lead-fits}
+use Rattle.conjugacy_of_plans.specs.CoresLaws.{core-and-lead, lead-count, lead-fits}
 use Rattle.conjugacy_of_plans.proofs.join_plans.Statement.{statement}
 use Rattle.conjugacy_of_plans.proofs.join_plans.Tie as tie
 
 -- places on the way
+
+abbrev after-form-of : tie.After-lead2 → tie.After-form-of
+after-form-of c = c .before .before .before .before .before .before
+
+abbrev after-form-of2-from-core23 : tie.After-core23 → tie.After-form-of2
+after-form-of2-from-core23 c = c .before .before .before .before .before
+
+abbrev after-form-of2-from-lead23 : tie.After-lead23 → tie.After-form-of2
+after-form-of2-from-lead23 c = c .before .before .before .before .before .before
+
+abbrev after-form-of2-from-join-by-cores-arg : tie.After-join-by-cores-arg → tie.After-form-of2
+after-form-of2-from-join-by-cores-arg c = c .before .before .before .before .before .before .before
+
+abbrev after-form-of2-from-slice-known2 : tie.After-slice-known2 → tie.After-form-of2
+after-form-of2-from-slice-known2 c = c .before .before .before .before .before .before .before .before .before .before
+
+abbrev start-from-lead1 : tie.After-lead1 → tie.Start
+start-from-lead1 c = c .before .before .before .before .before .before .before
+
+abbrev start-from-form-of : tie.After-form-of → tie.Start
+start-from-form-of c = c .before .before .before .before .before .before .before .before
 
 abbrev first : tie.After-form-of2 → tie.After-form-of
 first o = o .before .before .before .before .before .before .before
@@ -44,11 +65,11 @@ cores : (o : tie.After-form-of2) (k : List ℕ) → Asked o k
     Cores k (s .conflicts .now) (s .v .now) (s .w .now) (take (r .result .form) (r .last .1 .1 .0))
     (take (r .result .lead) (r .last .1 .1 .1 .0)) (take (t .result .form) (t .last .1 .1 .0))
     (take (t .result .lead) (t .last .1 .1 .1 .0)) (s .commands))
-cores o k p = record { plans = p; first = core-of-stripped (one o k p); second = core-of-stripped (two o k p) }
+cores o k p = record { plans = p; first = core-and-lead (one o k p); second = core-and-lead (two o k p) }
 
 form-of-requires : tie.Need-form-of-requires
 form-of-requires c κs =
-    let s = c .before .before .before .before .before .before .before in
+    let s = start-from-lead1 c in
     let p = s .pre .1 .first in (
       s .pre .0,
       p,
@@ -60,8 +81,8 @@ form-of-requires c κs =
 
 form-of-requires-2 : tie.Need-form-of-requires-2
 form-of-requires-2 c κs =
-    let f = c .before .before .before .before .before .before in
-    let s = f .before .before .before .before .before .before .before .before in
+    let f = after-form-of c in
+    let s = start-from-form-of f in
     let p = s .pre .1 .second in (
       s .pre .0,
       p,
@@ -76,8 +97,8 @@ array-share-prefix-core1 c =
     let o = c .before .before in
     starts-fits (one o (start o .pre .0) (start o .pre .1) .form)
 
-slice-aggregate-join-stripped : tie.Need-slice-aggregate-join-stripped
-slice-aggregate-join-stripped c =
+slice-aggregate-join-by-cores : tie.Need-slice-aggregate-join-by-cores
+slice-aggregate-join-by-cores c =
     let o = c .before .before .before in
     starts-count (one o (start o .pre .0) (start o .pre .1) .form)
 
@@ -86,8 +107,8 @@ array-share-prefix-lead1 c =
     let o = c .before .before .before in
     lead-fits (one o (start o .pre .0) (start o .pre .1))
 
-slice-aggregate-join-stripped-2 : tie.Need-slice-aggregate-join-stripped-2
-slice-aggregate-join-stripped-2 c =
+slice-aggregate-join-by-cores-2 : tie.Need-slice-aggregate-join-by-cores-2
+slice-aggregate-join-by-cores-2 c =
     let o = c .before .before .before .before in
     lead-count (one o (start o .pre .0) (start o .pre .1))
 
@@ -96,31 +117,31 @@ array-share-prefix-core2 c =
     let o = c .before .before .before .before in
     starts-fits (two o (start o .pre .0) (start o .pre .1) .form)
 
-slice-aggregate-join-stripped-3 : tie.Need-slice-aggregate-join-stripped-3
-slice-aggregate-join-stripped-3 c =
-    let o = c .before .before .before .before .before in
+slice-aggregate-join-by-cores-3 : tie.Need-slice-aggregate-join-by-cores-3
+slice-aggregate-join-by-cores-3 c =
+    let o = after-form-of2-from-core23 c in
     starts-count (two o (start o .pre .0) (start o .pre .1) .form)
 
 array-share-prefix-lead2 : tie.Need-array-share-prefix-lead2
 array-share-prefix-lead2 c =
-    let o = c .before .before .before .before .before in
+    let o = after-form-of2-from-core23 c in
     lead-fits (two o (start o .pre .0) (start o .pre .1))
 
-slice-aggregate-join-stripped-4 : tie.Need-slice-aggregate-join-stripped-4
-slice-aggregate-join-stripped-4 c =
-    let o = c .before .before .before .before .before .before in
+slice-aggregate-join-by-cores-4 : tie.Need-slice-aggregate-join-by-cores-4
+slice-aggregate-join-by-cores-4 c =
+    let o = after-form-of2-from-lead23 c in
     lead-count (two o (start o .pre .0) (start o .pre .1))
 
-join-stripped-requires : tie.Need-join-stripped-requires
-join-stripped-requires c κs =
-    let o = c .before .before .before .before .before .before .before in
+join-by-cores-requires : tie.Need-join-by-cores-requires
+join-by-cores-requires c κs =
+    let o = after-form-of2-from-join-by-cores-arg c in
     let (k, p, f) = start o .pre in
     (k, _, _, cores o k p, cores-room (cores o k p), f)
 
 returns : tie.Need-returns
 returns c =
-    let o = c .before .before .before .before .before .before .before .before .before .before in
-    λ k p. c .before .before .join-stripped .ensures k _ _ (cores o k p)
+    let o = after-form-of2-from-slice-known2 c in
+    λ k p. c .before .before .join-by-cores .ensures k _ _ (cores o k p)
 
 pub join-plans-spec : {M : Type 1} → statement M
 join-plans-spec =
@@ -137,13 +158,13 @@ join-plans-spec =
     (λ c. search needs)
     form-of-requires-2
     array-share-prefix-core1
-    slice-aggregate-join-stripped
+    slice-aggregate-join-by-cores
     array-share-prefix-lead1
-    slice-aggregate-join-stripped-2
+    slice-aggregate-join-by-cores-2
     array-share-prefix-core2
-    slice-aggregate-join-stripped-3
+    slice-aggregate-join-by-cores-3
     array-share-prefix-lead2
-    slice-aggregate-join-stripped-4
-    join-stripped-requires
+    slice-aggregate-join-by-cores-4
+    join-by-cores-requires
     (λ c. search needs)
     returns)

@@ -13,6 +13,12 @@ use Rattle.conjugacy_of_plans.proofs.lead_in_word.Tie as tie
 
 -- places on the way
 
+abbrev start-from-append-arg : tie.After-append-arg → tie.Start
+start-from-append-arg c = c .before .before .before .before .before .before
+
+abbrev start-from-append : tie.After-append → tie.Start
+start-from-append c = c .before .before .before .before .before .before .before
+
 abbrev begun : tie.After-join-cores → tie.After-append
 begun j = j .before .before .before .before
 
@@ -44,13 +50,13 @@ way-led q k v w p = cores-joined k _ _ _ _ _ (way (led q) k v w p) (q .way .give
 
 append-requires : tie.Need-append-requires
 append-requires c κs =
-    let s = c .before .before .before .before .before .before in
+    let s = start-from-append-arg c in
     lead-room (s .pre .3) (s .args .row .now) (s .pre .4)
 
 join-cores-requires : tie.Need-join-cores-requires
 join-cores-requires c κs =
     let a = c .before .before .before in
-    let s = a .before .before .before .before .before .before .before in
+    let s = start-from-append a in
     (s .pre .0, join-coreable (s .pre .3) (s .args .row .now) (s .pre .4) (a .append .ensures))
 
 returns : tie.Need-returns

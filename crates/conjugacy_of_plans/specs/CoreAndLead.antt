@@ -8,6 +8,6 @@ use Rattle.spec.specs.Letters.{letters, alphabet}
 use Rattle.spec.specs.Calls.{coreForm}
 
 -- core is the core of the plan, in normal form, and lead the letters taken off in front of it, up to swaps
-pub record Stripped (c plan core lead : List ℕ) : Type 0 where
+pub record CoreAndLead (c plan core lead : List ℕ) : Type 0 where
   pub form : core ≡ coreForm c plan
   pub off : _~_ (alphabet c) lead (Core.lead (alphabet c) (letters plan))

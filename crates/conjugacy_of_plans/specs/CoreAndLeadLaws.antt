@@ -33,10 +33,10 @@ use Rattle.spec_laws.specs.JoinLaws.{joins-words}
 use Rattle.spec.specs.Calls.{coreForm}
 use Rattle.spec.specs.Loops.{LeadIn, leadInRoom}
 use Rattle.conjugacy_of_cores.specs.Pair.{Conjugator}
-use Rattle.conjugacy_of_plans.specs.Stripped.{Stripped}
+use Rattle.conjugacy_of_plans.specs.CoreAndLead.{CoreAndLead}
 use Rattle.conjugacy_of_plans.specs.Join.{Cores}
-use Rattle.conjugacy_of_plans.specs.VerdictLaws.{cores-joined-same, through, through-conj, through-count}
-use Rattle.conjugacy_of_plans.specs.VerdictLaws.{through-all}
+use Rattle.conjugacy_of_plans.specs.ThroughLaws.{cores-joined-same, through, through-conj, through-count}
+use Rattle.conjugacy_of_plans.specs.ThroughLaws.{through-all}
 
 module _ (c : List ℕ) where
   infix 20 _~_ _≈_
@@ -53,7 +53,7 @@ module _ (c : List ℕ) where
       subst (λ (x : List ℕ). nf (alphabet c) z ~ x)
       (reduce-fixed (alphabet c) z (core-reduced (alphabet c) (letters v))) (nf-~ (alphabet c) z)
 
-  module _ {v x g : List ℕ} (k : Stripped c v x g) where
+  module _ {v x g : List ℕ} (k : CoreAndLead c v x g) where
     pub core-~ : x ~ core (alphabet c) (letters v)
     core-~ = subst (λ (z : List ℕ). z ~ core (alphabet c) (letters v)) (sym (k .form)) (form-~ v)
 
@@ -81,10 +81,10 @@ module _ (c : List ℕ) where
   -- two plans
 
   module _ {conflicts : List (List ℕ)} {v w x g y h : List ℕ} {n : ℕ} (d : Cores c conflicts v w x g y h n) where
-    abbrev k : Stripped c v x g
+    abbrev k : CoreAndLead c v x g
     k = d .first
 
-    abbrev l : Stripped c w y h
+    abbrev l : CoreAndLead c w y h
     l = d .second
 
     abbrev pv : Passing (commands c) v
