@@ -15,8 +15,7 @@ use Rattle.input_conflicts.specs.Conflicts.{bit}
 use Rattle.spec.specs.Conflict.{conflict}
 use Rattle.spec.specs.Letters.{alphabet}
 use Rattle.theory_words.specs.Filter.{keepIf}
-use Rattle.theory_conjugacy.specs.Part.{relabel-step, relabel, merge-step, merge, merge-row, merge-all}
-use Rattle.theory_conjugacy.specs.Part.{labels}
+use Rattle.theory_conjugacy.specs.Part.{relabel-step, relabel, merge-step, merge, merge-row, merge-all, labels}
 use Rattle.conjugacy_parts.specs.Flags.{Flags, LabelsOf}
 use Rattle.conjugacy_parts.specs.FlagsLaws.{flags-list}
 use Rattle.conjugacy_parts.specs.Merge.{Relabelled, flaggedAt, flagged}

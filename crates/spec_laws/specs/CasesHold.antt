@@ -5,8 +5,7 @@ use native.Mathlib.Decide.{ℕ-discrete}
 use Rattle.spec.specs.Table.{firstOf}
 use Rattle.theory_words.specs.Alike.{alike?}
 use Rattle.theory_words.specs.Reduce.{without-step, without, act-step, act, reduce}
-use Rattle.theory_words.specs.Normal.{meets, firsts, least-step, least, rest, lex-step, lex}
-use Rattle.theory_words.specs.Normal.{nf}
+use Rattle.theory_words.specs.Normal.{meets, firsts, least-step, least, rest, lex-step, lex, nf}
 use Rattle.theory_conjugacy.specs.Core as Core
 use Rattle.theory_conjugacy.specs.Core.{without-last, between, pair-step, pair, peels-step, peels, core}
 use Rattle.theory_conjugacy.specs.Part.{insert-step, insert, relabel-step, relabel, merge-step}

@@ -14,10 +14,9 @@ use Rattle.theory_words.specs.Trace.{Pick, here, there, First, done, con
 use Rattle.theory_words.specs.Group as Group
 use Rattle.theory_words.specs.Group.{Reduced, undo, empty, keep, trade, drop, then, back}
 use Rattle.theory_words.specs.Reduce.{without, without-step, act, act-step, reduce}
-use Rattle.theory_words.specs.TraceLaws.{dep-sym, dep-not, ~-refl, ~-sym, ~-length}
-use Rattle.theory_words.specs.TraceLaws.{pick-front, pick-along, pick-unique, pick-length, first-along}
-use Rattle.theory_words.specs.TraceLaws.{not-first-nil, not-first-cons, pick-diamond}
-use Rattle.theory_words.specs.TraceLaws.{Splits, early, late, pick-after, pick-past, pick-split}
+use Rattle.theory_words.specs.TraceLaws.{dep-sym, dep-not, ~-refl, ~-sym, ~-length, pick-front, pick-along}
+use Rattle.theory_words.specs.TraceLaws.{pick-unique, pick-length, first-along, not-first-nil, not-first-cons}
+use Rattle.theory_words.specs.TraceLaws.{pick-diamond, Splits, early, late, pick-after, pick-past, pick-split}
 use Rattle.theory_words.specs.GroupLaws.{dep-inv, dep-inv-right, ≈-refl, ≈-of-≡, ~→≈, drop-back, ≈-reverse}
 use Rattle.theory_words.specs.GroupLaws.{undo-onto, undo-twice, undo-length, ≈-undo, apart-undo}
 

@@ -16,6 +16,11 @@ Inv-loop row₀ from to i₀ j₀ row i j = Turning (goalOf row₀ from to) row 
 abbrev μ-loop : tie.MeasureT-loop
 μ-loop row₀ from to i₀ j₀ row i j = j - i
 
+-- places on the way
+
+abbrev at-loop : tie.After-undo2 Inv-loop μ-loop → tie.At-loop Inv-loop μ-loop
+at-loop c = c .before .before .before .before .before
+
 loop-holds : tie.Need-loop-holds Inv-loop μ-loop
 loop-holds c =
     let s = c .before in
@@ -29,16 +34,16 @@ slice-read-undo-2 c = omega (arith, turning-fits (c .before .before .before .bef
 
 slice-write-row : tie.Need-slice-write-row Inv-loop μ-loop
 slice-write-row c =
-    omega (arith, turning-fits (c .before .before .before .before .before .loop .inv) (omega arith))
+    omega (arith, turning-fits (at-loop c .loop .inv) (omega arith))
 
 slice-write-row-2 : tie.Need-slice-write-row-2 Inv-loop μ-loop
 slice-write-row-2 c =
-    let l = c .before .before .before .before .before in
+    let l = at-loop c in
     omega (arith, turning-fits (l .loop .inv) (omega arith), length-set (l .loop .row) (l .loop .i) (c .undo2 .result))
 
 add-i : tie.Need-add-i Inv-loop μ-loop
 add-i c =
-    let l = c .before .before .before .before .before in
+    let l = at-loop c in
     let s = l .before .before in
     let g = goal-length (s .args .row .now) (s .args .from) (s .args .to) (s .pre .0) (s .pre .1) in
     omega (arith, turning-fits (l .loop .inv) (omega arith), turning-length (l .loop .inv), g)
@@ -46,7 +51,7 @@ add-i c =
 loop-again : tie.Need-loop-again Inv-loop μ-loop
 loop-again c =
     rw (c .before .before .undo .ensures, c .undo2 .ensures)
-    (turning-again (c .before .before .before .before .before .loop .inv) (omega arith))
+    (turning-again (at-loop c .loop .inv) (omega arith))
 
 same-length : tie.Need-same-length Inv-loop μ-loop
 same-length c =

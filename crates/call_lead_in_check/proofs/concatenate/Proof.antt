@@ -4,11 +4,16 @@ use Rattle.call_lead_in_check.specs.CheckingLaws.{appended-concatenated}
 use Rattle.call_lead_in_check.proofs.concatenate.Statement.{statement}
 use Rattle.call_lead_in_check.proofs.concatenate.Tie as tie
 
+-- places on the way
+
+abbrev start : tie.After-append → tie.Start
+start c = c .before .before .before .before .before
+
 returns : tie.Need-returns
 returns c =
     let b = c .before .before in
     let a = b .before .before .before .before in
-    appended-concatenated (a .append .ensures) (b .append2 .ensures) (a .before .before .before .before .before .pre)
+    appended-concatenated (a .append .ensures) (b .append2 .ensures) (start a .pre)
 
 pub concatenate-spec : {M : Type 1} → statement M
 concatenate-spec = tie.close (tie.spec (λ c κs. search needs) (λ c κs. search needs) (λ c. search needs) returns)

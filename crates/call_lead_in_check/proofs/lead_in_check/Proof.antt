@@ -8,6 +8,11 @@ use borrow.Author.Needs.{needs}
 use Rattle.call_lead_in_check.proofs.lead_in_check.Statement.{statement}
 use Rattle.call_lead_in_check.proofs.lead_in_check.Tie as tie
 
+-- places on the way
+
+abbrev after-check : tie.After-lead-in → tie.After-check
+after-check c = c .before .before .before .before .before
+
 -- the three clauses of the contract
 clauses : {A B C : Type 0} → A × B × C → A × (B × C)
 clauses o = (o .0, (o .1, o .2))
@@ -66,7 +71,7 @@ check-requires c κs =
 
 returns-4 : tie.Need-returns-4
 returns-4 c =
-    let k = c .before .before .before .before .before in
+    let k = after-check c in
     let j = k .before .before .before .before in
     let e = checks j in
     clauses (check-told (u e) (e .three-plans .ensures) (area0 e) (area1 e) (j .before .before .enum-told .given .1)

@@ -6,6 +6,14 @@ use borrow.Author.Needs.{needs}
 use Rattle.call_lead_in_check.proofs.product_in.Statement.{statement}
 use Rattle.call_lead_in_check.proofs.product_in.Tie as tie
 
+-- places on the way
+
+abbrev after-concatenate : tie.After-form → tie.After-concatenate
+after-concatenate c = c .before .before .before .before .before
+
+abbrev start : tie.After-concatenate → tie.Start
+start c = c .before .before .before .before .before .before
+
 slice-reshare-prefix-form : tie.Need-slice-reshare-prefix-form
 slice-reshare-prefix-form c = search needs
 
@@ -15,13 +23,13 @@ slice-aggregate-form c = sym (length-take-le _ _ (slice-reshare-prefix-form (c .
 form-requires : tie.Need-form-requires
 form-requires c κs =
     let j = c .before .before .before .before in
-    let (k, f, s) = j .before .before .before .before .before .before .pre in
+    let (k, f, s) = start j .pre in
     (k, product-formable (j .concatenate .ensures) f)
 
 returns : tie.Need-returns
 returns c =
     let n = c .before .before in
-    let j = n .before .before .before .before .before .concatenate .ensures in
+    let j = after-concatenate n .concatenate .ensures in
     λ k f. product-written k j (n .form .ensures k (product-given j f))
 
 pub product-in-spec : {M : Type 1} → statement M

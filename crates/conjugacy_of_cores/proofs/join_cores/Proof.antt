@@ -12,6 +12,14 @@ use Rattle.conjugacy_of_cores.specs.ConjugatorLaws.{cores-same}
 use Rattle.conjugacy_of_cores.proofs.join_cores.Statement.{statement}
 use Rattle.conjugacy_of_cores.proofs.join_cores.Tie as tie
 
+-- places on the way
+
+abbrev start-from-else1 : tie.Else1 → tie.Start
+start-from-else1 c = c .before .before .before .before .before
+
+abbrev start-from-occurring : tie.After-occurring → tie.Start
+start-from-occurring c = c .before .before .before .before .before .before
+
 abbrev flagged : tie.After-same-commands → tie.After-occurring2
 flagged m = m .before .before .before
 
@@ -39,10 +47,10 @@ returns c =
     cores-same (h .first) (s .row .now) (s .at) (m .same-bytes .ensures .0 (c .if1 .taken))
 
 occurring-requires : tie.Need-occurring-requires
-occurring-requires c κs = cyclic-lettered (c .before .before .before .before .before .pre .1 .first)
+occurring-requires c κs = cyclic-lettered (start-from-else1 c .pre .1 .first)
 
 occurring-requires-2 : tie.Need-occurring-requires-2
-occurring-requires-2 c κs = cyclic-lettered (c .before .before .before .before .before .before .pre .1 .second)
+occurring-requires-2 c κs = cyclic-lettered (start-from-occurring c .pre .1 .second)
 
 returns-2 : tie.Need-returns-2
 returns-2 c =

@@ -23,6 +23,9 @@ abbrev μ-loop : tie.MeasureT-loop
 
 -- places on the way
 
+abbrev after-join-at : tie.After-known-told Inv-loop μ-loop → tie.After-join-at Inv-loop μ-loop
+after-join-at c = c .before .before .before .before .before
+
 abbrev start : tie.At-loop Inv-loop μ-loop → tie.Start Inv-loop μ-loop
 start l = l .before .before .before .before
 
@@ -56,7 +59,7 @@ returns c =
 
 loop-again : tie.Need-loop-again Inv-loop μ-loop
 loop-again c =
-    let a = c .before .before .before .before .before in
+    let a = after-join-at c in
     let l = loop a in
     let r = start l .pre .2 in (
       a .join-at .kept .1 .1 .1 .1 .1 .1 .1 .0 ∙ l .loop .inv .0,

@@ -12,6 +12,18 @@ use Rattle.conjugacy_of_parts.proofs.join_part.Tie as tie
 
 -- places on the way
 
+abbrev after-ring-of : tie.After-enum-told → tie.After-ring-of
+after-ring-of c = c .before .before .before .before .before
+
+abbrev after-ring-of2 : tie.After-enum-told2 → tie.After-ring-of2
+after-ring-of2 c = c .before .before .before .before .before
+
+abbrev after-second : tie.After-slice-known4 → tie.After-second
+after-second c = c .before .before .before .before .before .before .before
+
+abbrev start-from-ring-of-arg : tie.After-ring-of-arg → tie.Start
+start-from-ring-of-arg c = c .before .before .before .before .before .before .before
+
 abbrev start : tie.After-ring-of → tie.Start
 start a = a .before .before .before .before .before .before .before .before
 
@@ -66,12 +78,12 @@ two q k h =
 
 ring-of-requires : tie.Need-ring-of-requires
 ring-of-requires c κs =
-    let s = c .before .before .before .before .before .before .before in
+    let s = start-from-ring-of-arg c in
     (s .pre .0, part-first (s .pre .1) _ (c .before .before .before .sheet .ensures))
 
 returns : tie.Need-returns
 returns c =
-    let a = c .before .before .before .before .before in
+    let a = after-ring-of c in
     λ k h. absurd (first-settled h _ _ _ (a .ring-of .ensures k (first-asked a k h)) (c .enum-told .given .1))
 
 ring-of-requires-2 : tie.Need-ring-of-requires-2
@@ -82,7 +94,7 @@ ring-of-requires-2 c κs =
 
 returns-2 : tie.Need-returns-2
 returns-2 c =
-    let b = c .before .before .before .before .before in
+    let b = after-ring-of2 c in
     λ k h.
     absurd (second-settled h _ _ _ _ (b .ring-of2 .ensures k (second-asked (known b) k h)) (c .enum-told2 .given .1))
 
@@ -120,7 +132,7 @@ join-rings-requires c κs =
 
 returns-3 : tie.Need-returns-3
 returns-3 c =
-    let q = c .before .before .before .before .before .before .before in
+    let q = after-second c in
     let j = c .before .before .join-rings in
     let m = ringed (first q) .ring-of .kept .1 .1 .1 .1 .1 .1 .0 in
     let n = ringed2 q .ring-of2 .kept .1 .1 .1 .1 .1 .1 .0 in

@@ -13,6 +13,17 @@ use Rattle.conjugacy_of_parts.specs.TurnLaws.{rings-joined}
 use Rattle.conjugacy_of_parts.proofs.join_rings.Statement.{statement}
 use Rattle.conjugacy_of_parts.proofs.join_rings.Tie as tie
 
+-- places on the way
+
+abbrev after-append-undone : tie.After-slice-known3 → tie.After-append-undone
+after-append-undone c = c .before .before .before .before .before .before
+
+abbrev after-found-from-undo-between-arg : tie.After-undo-between-arg → tie.After-found
+after-found-from-undo-between-arg c = c .before .before .before .before .before .before .before
+
+abbrev after-found-from-slice-known3 : tie.After-slice-known3 → tie.After-found
+after-found-from-slice-known3 c = c .before .before .before .before .before .before .before .before .before .before
+
 abbrev start : tie.After-found → tie.Start
 start q = q .before .before .before .before .before .before
 
@@ -47,7 +58,7 @@ append-undone-requires c κs =
 
 undo-between-requires : tie.Need-undo-between-requires
 undo-between-requires c κs =
-    let q = c .before .before .before .before .before .before .before in
+    let q = after-found-from-undo-between-arg c in
     let a = c .before .before .before .append-undone in
     let s = start q .pre in
     let e = start-end [] (ring q) (other q) (place q []) s (a .ensures) in
@@ -55,8 +66,8 @@ undo-between-requires c κs =
 
 returns-2 : tie.Need-returns-2
 returns-2 c =
-    let q = c .before .before .before .before .before .before .before .before .before .before in
-    let a = c .before .before .before .before .before .before .append-undone .ensures in
+    let q = after-found-from-slice-known3 c in
+    let a = after-append-undone c .append-undone .ensures in
     let b = c .before .before .undo-between .ensures in
     let s = start q .pre in
     λ k z t.

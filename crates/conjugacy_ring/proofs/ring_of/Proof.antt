@@ -19,6 +19,18 @@ use Rattle.conjugacy_ring.proofs.ring_of.Tie as tie
 
 -- places on the way
 
+abbrev after-part : tie.After-settle-arg → tie.After-part
+after-part c = c .before .before .before .before .before
+
+abbrev after-settle : tie.After-enum-told → tie.After-settle
+after-settle c = c .before .before .before .before .before .before .before
+
+abbrev after-settled : tie.After-slice-known4 → tie.After-settled
+after-settled c = c .before .before .before .before .before .before
+
+abbrev start-from-word : tie.After-word → tie.Start
+start-from-word c = c .before .before .before .before .before .before .before
+
 abbrev start : tie.After-part → tie.Start
 start p = p .before .before .before .before .before .before .before .before
 
@@ -59,7 +71,7 @@ ended q k h =
 
 part-requires : tie.Need-part-requires
 part-requires c κs =
-    let h = c .before .before .before .before .before .before .before .pre .1 .core .cyclic in
+    let h = start-from-word c .pre .1 .core .cyclic in
     (cyclic-lettered h, omega (arith, h .short, c .before .before .before .sheet .ensures))
 
 array-borrow-prefix-word : tie.Need-array-borrow-prefix-word
@@ -76,13 +88,13 @@ slice-aggregate-settle c =
 
 settle-requires : tie.Need-settle-requires
 settle-requires c κs =
-    let p = c .before .before .before .before .before in
+    let p = after-part c in
     let (k, h) = start p .pre in
     (k, settleable p k h)
 
 returns : tie.Need-returns
 returns c =
-    let t = c .before .before .before .before .before .before .before in
+    let t = after-settle c in
     let p = copy t in
     λ k h.
     ringable-unsettled h (starts-take (copied p k h))
@@ -115,7 +127,7 @@ form-requires c κs =
 
 returns-2 : tie.Need-returns-2
 returns-2 c =
-    let q = c .before .before .before .before .before .before in
+    let q = after-settled c in
     let p = copy (settling q) in
     λ k h.
     let d = starts-take (copied p k h) in

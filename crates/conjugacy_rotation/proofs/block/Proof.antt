@@ -6,15 +6,20 @@ use Rattle.conjugacy_rotation.specs.StrideLaws.{block-agrees, block-diff
 use Rattle.conjugacy_rotation.proofs.block.Statement.{statement}
 use Rattle.conjugacy_rotation.proofs.block.Tie as tie
 
+-- places on the way
+
+abbrev start : tie.After-same-bytes → tie.Start
+start c = c .before .before .before .before .before
+
 returns : tie.Need-returns
 returns c =
     let b = c .before in
-    block-agrees (b .before .before .before .before .before .pre) (b .same-bytes .ensures .0 (c .if1 .taken))
+    block-agrees (start b .pre) (b .same-bytes .ensures .0 (c .if1 .taken))
 
 returns-2 : tie.Need-returns-2
 returns-2 c =
     let b = c .before in
-    block-differs (b .before .before .before .before .before .pre)
+    block-differs (start b .pre)
     (λ e. true≢false (sym (b .same-bytes .ensures .1 e) ∙ c .if1 .left))
 
 pub block-spec : {M : Type 1} → statement M

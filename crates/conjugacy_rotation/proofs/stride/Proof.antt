@@ -4,8 +4,13 @@ use Rattle.conjugacy_rotation.specs.StrideLaws.{first-differs, stride-mo
 use Rattle.conjugacy_rotation.proofs.stride.Statement.{statement}
 use Rattle.conjugacy_rotation.proofs.stride.Tie as tie
 
+-- places on the way
+
+abbrev start : tie.Then1 → tie.Start
+start c = c .before .before .before .before .before
+
 returns : tie.Need-returns
-returns c = first-differs (c .before .before .before .before .before .pre) (c .if1 .taken)
+returns c = first-differs (start c .pre) (c .if1 .taken)
 
 returns-3 : tie.Need-returns-3
 returns-3 c = stride-more (c .before .if2 .left) (c .block2 .ensures)

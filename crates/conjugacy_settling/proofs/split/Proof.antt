@@ -15,29 +15,40 @@ Inv-loop word apex conflicts low₀ high₀ raised₀ ends₀ i₀ low high rais
 abbrev μ-loop : tie.MeasureT-loop
 μ-loop word apex conflicts low₀ high₀ raised₀ ends₀ i₀ low high raised ends i = length word - i
 
+-- places on the way
+
+abbrev at-loop-from-place-arg2 : tie.After-place-arg2 Inv-loop μ-loop → tie.At-loop Inv-loop μ-loop
+at-loop-from-place-arg2 c = c .before .before .before .before .before
+
+abbrev at-loop-from-place : tie.After-place Inv-loop μ-loop → tie.At-loop Inv-loop μ-loop
+at-loop-from-place c = c .before .before .before .before .before .before
+
+abbrev start : tie.At-loop Inv-loop μ-loop → tie.Start Inv-loop μ-loop
+start c = c .before .before .before .before .before
+
 loop-holds : tie.Need-loop-holds Inv-loop μ-loop
 loop-holds c = halving-start (c .none .ensures)
 
 place-requires : tie.Need-place-requires Inv-loop μ-loop
 place-requires c κs =
-    let l = c .before .before .before .before .before in
-    halving-place (l .loop .inv) (l .before .before .before .before .before .pre .1) (omega arith)
+    let l = at-loop-from-place-arg2 c in
+    halving-place (l .loop .inv) (start l .pre .1) (omega arith)
 
 loop-again : tie.Need-loop-again Inv-loop μ-loop
 loop-again c =
     let p = c .before .before .before .before in
-    let l = p .before .before .before .before .before .before in
+    let l = at-loop-from-place p in
     halving-again (l .loop .inv) (omega arith) (p .place .ensures)
 
 same-length : tie.Need-same-length Inv-loop μ-loop
 same-length c =
     let l = c .before in
-    halving-lengths (l .loop .inv) (l .before .before .before .before .before .pre .1) .0
+    halving-lengths (l .loop .inv) (start l .pre .1) .0
 
 same-length-2 : tie.Need-same-length-2 Inv-loop μ-loop
 same-length-2 c =
     let l = c .before in
-    halving-lengths (l .loop .inv) (l .before .before .before .before .before .pre .1) .1
+    halving-lengths (l .loop .inv) (start l .pre .1) .1
 
 returns : tie.Need-returns Inv-loop μ-loop
 returns c = halving-end (c .before .loop .inv) (omega arith)

@@ -8,6 +8,11 @@ use borrow.Author.Needs.{needs}
 use Rattle.input_catalogue.proofs.check.Statement.{statement}
 use Rattle.input_catalogue.proofs.check.Tie as tie
 
+-- places on the way
+
+abbrev after-enum-told : tie.After-enum-told5 → tie.After-enum-told
+after-enum-told c = c .before .before .before .before .before .before
+
 frame-none : (c : tie.After-enum-told) → frameLine (c .before .before .before .before .args .c .now) ≡ none
 frame-none c =
     let r = c .before .before .framed in
@@ -65,7 +70,7 @@ returns-3 c =
 
 named-requires : tie.Need-named-requires
 named-requires c κs =
-    let x = c .before .before .before .before .before .before in
+    let x = after-enum-told c in
     framed-from (x .before .before .before .before .args .c .now) (frame-none x)
 
 returns-4 : tie.Need-returns-4

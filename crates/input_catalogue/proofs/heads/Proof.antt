@@ -15,6 +15,17 @@ Inv-loop c n a₀ a = Searching (highHead c) (commands c) 1 a
 abbrev μ-loop : tie.MeasureT-loop
 μ-loop c n a₀ a = commands c + 1 - a
 
+-- places on the way
+
+abbrev at-loop : tie.After-refused Inv-loop μ-loop → tie.At-loop Inv-loop μ-loop
+at-loop c = c .before .before .before .before .before
+
+abbrev start-from-else1 : tie.Else1 Inv-loop μ-loop → tie.Start Inv-loop μ-loop
+start-from-else1 c = c .before .before .before .before .before .before .before
+
+abbrev start-from-refused : tie.After-refused Inv-loop μ-loop → tie.Start Inv-loop μ-loop
+start-from-refused c = c .before .before .before .before .before .before .before .before
+
 loop-holds : tie.Need-loop-holds Inv-loop μ-loop
 loop-holds c =
     let cat = c .before .before .args .c .now in
@@ -22,15 +33,15 @@ loop-holds c =
 
 returns : tie.Need-returns Inv-loop μ-loop
 returns c =
-    let cat = c .before .before .before .before .before .before .before .before .args .c .now in
-    let g = c .before .before .before .before .before .loop in
+    let cat = start-from-refused c .args .c .now in
+    let g = at-loop c .loop in
     let high = head-high cat (g .a) (omega arith) (c .before .if1 .taken) in
     let hit = search-hit (highHead cat) (g .inv) (omega arith) high in
     decides cat (c .refused .result) (ap (lineAt 3 0 headPlace) hit) (c .refused .ensures)
 
 loop-again : tie.Need-loop-again Inv-loop μ-loop
 loop-again c =
-    let cat = c .before .before .before .before .before .before .before .args .c .now in
+    let cat = start-from-else1 c .args .c .now in
     let g = c .before .before .before .before .loop in
     search-again (highHead cat) (g .inv) (omega arith) (head-low cat (g .a) (omega arith) (c .if1 .left))
 

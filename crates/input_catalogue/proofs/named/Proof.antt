@@ -17,6 +17,20 @@ Inv-loop c n r j₀ j = Searching (wrongCommand c) (records c) 1 j
 abbrev μ-loop : tie.MeasureT-loop
 μ-loop c n r j₀ j = records c + 1 - j
 
+-- places on the way
+
+abbrev at-loop : tie.Else2 Inv-loop μ-loop → tie.At-loop Inv-loop μ-loop
+at-loop c = c .before .before .before .before .before
+
+abbrev start-from-loop : tie.After-loop Inv-loop μ-loop → tie.Start Inv-loop μ-loop
+start-from-loop c = c .before .before .before .before .before
+
+abbrev start-from-refused : tie.After-refused Inv-loop μ-loop → tie.Start Inv-loop μ-loop
+start-from-refused c = c .before .before .before .before .before .before .before .before
+
+abbrev start-from-else2 : tie.Else2 Inv-loop μ-loop → tie.Start Inv-loop μ-loop
+start-from-else2 c = c .before .before .before .before .before .before .before .before .before
+
 loop-holds : tie.Need-loop-holds Inv-loop μ-loop
 loop-holds c =
     let cat = c .before .before .before .args .c .now in
@@ -24,7 +38,7 @@ loop-holds c =
 
 returns : tie.Need-returns Inv-loop μ-loop
 returns c =
-    let cat = c .before .before .before .before .before .before .before .before .args .c .now in
+    let cat = start-from-refused c .args .c .now in
     let g = c .before .before .before .before .loop in
     let came = c .before .if1 .came in
     let wrong = ⊎-elim (λ w. command-zero cat (g .j) (w .taken)) (λ w. command-high cat (g .j) (w .2 .taken)) came in
@@ -33,14 +47,14 @@ returns c =
 
 loop-again : tie.Need-loop-again Inv-loop μ-loop
 loop-again c =
-    let cat = c .before .before .before .before .before .before .before .before .before .args .c .now in
-    let j = c .before .before .before .before .before .loop .j in
-    search-again (wrongCommand cat) (c .before .before .before .before .before .loop .inv) (omega arith)
+    let cat = start-from-else2 c .args .c .now in
+    let j = at-loop c .loop .j in
+    search-again (wrongCommand cat) (at-loop c .loop .inv) (omega arith)
     (command-fine cat j (c .before .before .if1 .left) (c .if2 .left))
 
 returns-2 : tie.Need-returns-2 Inv-loop μ-loop
 returns-2 c =
-    let cat = c .before .before .before .before .before .args .c .now in
+    let cat = start-from-loop c .args .c .now in
     passes cat (ap (lineAt 4 0 (commandPlace cat)) (search-end (wrongCommand cat) (c .before .loop .inv) (omega arith)))
 
 pub named-spec : {M : Type 1} → statement M

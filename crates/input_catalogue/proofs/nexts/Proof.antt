@@ -16,6 +16,20 @@ Inv-loop c n r j₀ j = Searching (highNext c) (records c) 1 j
 abbrev μ-loop : tie.MeasureT-loop
 μ-loop c n r j₀ j = records c + 1 - j
 
+-- places on the way
+
+abbrev at-loop : tie.After-refused Inv-loop μ-loop → tie.At-loop Inv-loop μ-loop
+at-loop c = c .before .before .before .before .before
+
+abbrev start-from-loop : tie.After-loop Inv-loop μ-loop → tie.Start Inv-loop μ-loop
+start-from-loop c = c .before .before .before .before .before
+
+abbrev start-from-else1 : tie.Else1 Inv-loop μ-loop → tie.Start Inv-loop μ-loop
+start-from-else1 c = c .before .before .before .before .before .before .before .before
+
+abbrev start-from-refused : tie.After-refused Inv-loop μ-loop → tie.Start Inv-loop μ-loop
+start-from-refused c = c .before .before .before .before .before .before .before .before .before
+
 loop-holds : tie.Need-loop-holds Inv-loop μ-loop
 loop-holds c =
     let cat = c .before .before .before .args .c .now in
@@ -23,21 +37,21 @@ loop-holds c =
 
 returns : tie.Need-returns Inv-loop μ-loop
 returns c =
-    let cat = c .before .before .before .before .before .before .before .before .before .args .c .now in
-    let g = c .before .before .before .before .before .loop in
+    let cat = start-from-refused c .args .c .now in
+    let g = at-loop c .loop in
     let high = lt-ltb (records cat) (next cat (g .j)) (c .before .if1 .taken) in
     let hit = search-hit (highNext cat) (g .inv) (omega arith) high in
     decides cat (c .refused .result) (ap (lineAt 3 0 (nextPlace cat)) hit) (c .refused .ensures)
 
 loop-again : tie.Need-loop-again Inv-loop μ-loop
 loop-again c =
-    let cat = c .before .before .before .before .before .before .before .before .args .c .now in
+    let cat = start-from-else1 c .args .c .now in
     let g = c .before .before .before .before .loop in
     search-again (highNext cat) (g .inv) (omega arith) (le-ltb (records cat) (next cat (g .j)) (c .if1 .left))
 
 returns-2 : tie.Need-returns-2 Inv-loop μ-loop
 returns-2 c =
-    let cat = c .before .before .before .before .before .args .c .now in
+    let cat = start-from-loop c .args .c .now in
     passes cat (ap (lineAt 3 0 (nextPlace cat)) (search-end (highNext cat) (c .before .loop .inv) (omega arith)))
 
 pub nexts-spec : {M : Type 1} → statement M

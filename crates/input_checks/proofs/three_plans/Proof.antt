@@ -5,10 +5,15 @@ use borrow.Author.Needs.{needs}
 use Rattle.input_checks.proofs.three_plans.Statement.{statement}
 use Rattle.input_checks.proofs.three_plans.Tie as tie
 
+-- places on the way
+
+abbrev start : tie.After-two-plans → tie.Start
+start c = c .before .before .before .before .before .before
+
 returns : tie.Need-returns
 returns c =
     let a = c .before in
-    let s = a .before .before .before .before .before .before in
+    let s = start a in
     let k = s .args .catalogue .now in
     third-entered (s .args .u .now) (a .two-plans .ensures)
     (c .next-plan .ensures k (twoLines k (s .args .v .now) (s .args .w .now)))

@@ -10,6 +10,11 @@ use borrow.Author.Needs.{needs}
 use Rattle.input_conflicts.proofs.chain_of.Statement.{statement}
 use Rattle.input_conflicts.proofs.chain_of.Tie as tie
 
+-- places on the way
+
+abbrev start : tie.After-walk-arg2 → tie.Start
+start c = c .before .before .before .before .before .before
+
 -- the head is a byte
 abbrev top : tie.After-shared-slice-known2 → ℕ
 top c = getD (c .before .before .args .c .now) (1 + c .before .before .args .a) 0
@@ -74,7 +79,7 @@ element-write-firsts c = below (c .before .before)
 
 walk-requires : tie.Need-walk-requires
 walk-requires c κs =
-    let s = c .before .before .before .before .before .before in
+    let s = start c in
     (s .pre .0, (s .pre .1 .0 .shape, (s .pre .1 .1 .0 .shape, s .pre .1 .1 .1)))
 
 returns-2 : tie.Need-returns-2

@@ -22,6 +22,23 @@ Inv-loop c rows₀ own₀ firsts₀ n a₀ rows own firsts a =
 abbrev μ-loop : tie.MeasureT-loop
 μ-loop c rows₀ own₀ firsts₀ n a₀ rows own firsts a = commands c + 1 - a
 
+-- places on the way
+
+abbrev at-loop-from-else1 : tie.Else1 Inv-loop μ-loop → tie.At-loop Inv-loop μ-loop
+at-loop-from-else1 c = c .before .before .before .before .before .before
+
+abbrev at-loop-from-refused : tie.After-refused Inv-loop μ-loop → tie.At-loop Inv-loop μ-loop
+at-loop-from-refused c = c .before .before .before .before .before .before .before
+
+abbrev start-from-chain-of-arg3 : tie.After-chain-of-arg3 Inv-loop μ-loop → tie.Start Inv-loop μ-loop
+start-from-chain-of-arg3 c = c .before .before .before .before .before .before .before
+
+abbrev start-from-else1 : tie.Else1 Inv-loop μ-loop → tie.Start Inv-loop μ-loop
+start-from-else1 c = c .before .before .before .before .before .before .before .before .before
+
+abbrev start-from-refused : tie.After-refused Inv-loop μ-loop → tie.Start Inv-loop μ-loop
+start-from-refused c = c .before .before .before .before .before .before .before .before .before .before
+
 loop-holds : tie.Need-loop-holds Inv-loop μ-loop
 loop-holds c =
     let x = c .before .before in
@@ -33,24 +50,24 @@ loop-holds c =
 
 chain-of-requires : tie.Need-chain-of-requires Inv-loop μ-loop
 chain-of-requires c κs =
-    let x = c .before .before .before .before .before .before .before in
+    let x = start-from-chain-of-arg3 c in
     let g = c .before .before .before .before .loop in
     (x .pre .0, (g .inv .1, (g .inv .2, (omega arith, omega arith))))
 
 returns : tie.Need-returns Inv-loop μ-loop
 returns c =
-    let cat = c .before .before .before .before .before .before .before .before .before .before .args .c .now in
+    let cat = start-from-refused c .args .c .now in
     let stuck = ap not (sym (c .before .before .chain-of .ensures .0)) ∙ c .before .if1 .taken in
-    let g = c .before .before .before .before .before .before .before .loop in
+    let g = at-loop-from-refused c .loop in
     let hit = search-hit (endless cat) (g .inv .0) (omega arith) stuck in
     let line = ap (lineAt 5 0 headPlace) hit in
     (decides cat (c .refused .result) line (c .refused .ensures), λ e. absurd (some-none (sym line ∙ e)))
 
 loop-again : tie.Need-loop-again Inv-loop μ-loop
 loop-again c =
-    let x = c .before .before .before .before .before .before .before .before .before in
+    let x = start-from-else1 c in
     let cat = x .args .c .now in
-    let g = c .before .before .before .before .before .before .loop in
+    let g = at-loop-from-else1 c .loop in
     let d = c .before .chain-of .ensures in
     let t = not-false (c .before .chain-of .result) (c .if1 .left) in
     (search-again (endless cat) (g .inv .0) (omega arith) (ap not (sym (d .0)) ∙ c .if1 .left), d .1 .0 t, d .1 .1 t)

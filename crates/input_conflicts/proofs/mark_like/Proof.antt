@@ -13,6 +13,11 @@ Inv-loop own b a rows₀ j₀ rows j = MarkingMembers a (getD own (b - 1) []) ro
 abbrev μ-loop : tie.MeasureT-loop
 μ-loop own b a rows₀ j₀ rows j = 24 - j
 
+-- places on the way
+
+abbrev start : tie.After-mark-if Inv-loop μ-loop → tie.Start Inv-loop μ-loop
+start c = c .before .before .before .before .before
+
 loop-holds : tie.Need-loop-holds Inv-loop μ-loop
 loop-holds c =
     let s = c in
@@ -28,7 +33,7 @@ mark-if-requires c κs =
 
 loop-again : tie.Need-loop-again Inv-loop μ-loop
 loop-again c =
-    let s = c .before .before .before .before .before in
+    let s = start c in
     let g = c .before .before .before .before .loop in
     let (ha, hb) = s .pre .1 .1 in
     marking-again (s .args .a) ha (getD (s .args .own .now) (s .args .b - 1) [])

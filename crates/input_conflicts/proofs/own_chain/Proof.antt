@@ -16,6 +16,14 @@ Inv-loop c rows n a₀ a = Searching (λ a. stands a (chain c a)) (commands c) 1
 abbrev μ-loop : tie.MeasureT-loop
 μ-loop c rows n a₀ a = commands c + 1 - a
 
+-- places on the way
+
+abbrev start-from-else1 : tie.Else1 Inv-loop μ-loop → tie.Start Inv-loop μ-loop
+start-from-else1 c = c .before .before .before .before .before .before
+
+abbrev start-from-refused : tie.After-refused Inv-loop μ-loop → tie.Start Inv-loop μ-loop
+start-from-refused c = c .before .before .before .before .before .before .before
+
 loop-holds : tie.Need-loop-holds Inv-loop μ-loop
 loop-holds c =
     let cat = c .before .before .args .c .now in
@@ -23,7 +31,7 @@ loop-holds c =
 
 returns : tie.Need-returns Inv-loop μ-loop
 returns c =
-    let x = c .before .before .before .before .before .before .before in
+    let x = start-from-refused c in
     let cat = x .args .c .now in
     let g = c .before .before .before .before .loop in
     let t = met-own cat (x .pre .1) (g .a) (omega arith) (omega arith) (c .before .if1 .taken) in
@@ -32,7 +40,7 @@ returns c =
 
 loop-again : tie.Need-loop-again Inv-loop μ-loop
 loop-again c =
-    let x = c .before .before .before .before .before .before in
+    let x = start-from-else1 c in
     let cat = x .args .c .now in
     let g = c .before .before .before .loop in
     search-again (λ a. stands a (chain cat a)) (g .inv) (omega arith)

@@ -10,6 +10,17 @@ use borrow.Author.Needs.{needs}
 use Rattle.input_conflicts.proofs.read.Statement.{statement}
 use Rattle.input_conflicts.proofs.read.Tie as tie
 
+-- places on the way
+
+abbrev after-enum-told : tie.After-enum-told4 → tie.After-enum-told
+after-enum-told c = c .before .before .before .before .before .before .before .before
+
+abbrev after-enum-told3 : tie.After-diagonal-arg → tie.After-enum-told3
+after-enum-told3 c = c .before .before .before .before .before .before
+
+abbrev after-own-chain : tie.After-diagonal → tie.After-own-chain
+after-own-chain c = c .before .before .before .before .before
+
 sound-line : (c : tie.After-enum-told) → soundLine (c .before .before .before .before .args .catalogue .now) ≡ none
 sound-line c =
     let cat = c .before .before .before .before .args .catalogue .now in
@@ -47,7 +58,7 @@ each-chain-requires c κs =
 
 returns-2 : tie.Need-returns-2
 returns-2 c =
-    let x = c .before .before .before .before .before .before .before .before in
+    let x = after-enum-told c in
     let cat = x .before .before .before .before .args .catalogue .now in
     let r = c .before .before .each-chain in
     let d = then-refused cat (endlessLine cat) (ownLine cat) (r .result) (r .ensures .0) (c .enum-told4 .given .1) in
@@ -76,7 +87,7 @@ returns-3 c =
 
 diagonal-requires : tie.Need-diagonal-requires
 diagonal-requires c κs =
-    let y = c .before .before .before .before .before .before in
+    let y = after-enum-told3 c in
     y .before .before .each-chain .ensures .1 (endless-line y) .shape
 
 returns-4 : tie.Need-returns-4
@@ -84,7 +95,7 @@ returns-4 c =
     let y = c .before .before .before .before .before .before .before in
     let x = before-chains y in
     let cat = x .before .before .before .before .args .catalogue .now in
-    let r = c .before .before .before .before .before .own-chain in
+    let r = after-own-chain c .own-chain in
     let d = then-passed cat (endlessLine cat) (ownLine cat) (r .result) (endless-line y) (r .ensures) in
     let last = orIf (endlessLine cat) (ownLine cat) in
     let met = y .before .before .each-chain .ensures .1 (endless-line y) in

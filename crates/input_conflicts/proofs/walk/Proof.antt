@@ -15,6 +15,30 @@ Inv-loop c a rows₀ own₀ n left₀ at₀ rows own left at = Walking c a rows�
 abbrev μ-loop : tie.MeasureT-loop
 μ-loop c a rows₀ own₀ n left₀ at₀ rows own left at = left
 
+-- places on the way
+
+abbrev at-loop-from-meet-arg2 : tie.After-meet-arg2 Inv-loop μ-loop → tie.At-loop Inv-loop μ-loop
+at-loop-from-meet-arg2 c = c .before .before .before .before .before
+
+abbrev at-loop-from-shared-slice-known6 : tie.After-shared-slice-known6 Inv-loop μ-loop → tie.At-loop Inv-loop μ-loop
+at-loop-from-shared-slice-known6 c = c .before .before .before .before .before .before .before
+
+abbrev start-from-loop : tie.After-loop Inv-loop μ-loop → tie.Start Inv-loop μ-loop
+start-from-loop c = c .before .before .before .before .before .before
+
+abbrev start-from-then1 : tie.Then1 Inv-loop μ-loop → tie.Start Inv-loop μ-loop
+start-from-then1 c = c .before .before .before .before .before .before .before
+
+abbrev start-from-shared-slice-known5 : tie.After-shared-slice-known5 Inv-loop μ-loop → tie.Start Inv-loop μ-loop
+start-from-shared-slice-known5 c = c .before .before .before .before .before .before .before .before
+
+abbrev start-from-meet-arg2 : tie.After-meet-arg2 Inv-loop μ-loop → tie.Start Inv-loop μ-loop
+start-from-meet-arg2 c = c .before .before .before .before .before .before .before .before .before .before
+
+abbrev start-from-shared-slice-known6 : tie.After-shared-slice-known6 Inv-loop μ-loop → tie.Start Inv-loop μ-loop
+start-from-shared-slice-known6 c =
+    c .before .before .before .before .before .before .before .before .before .before .before .before
+
 cast-at : tie.Need-cast-at Inv-loop μ-loop
 cast-at c = omega (arith, c .shared-slice-known4 .given (1 + c .before .before .before .before .args .a))
 
@@ -29,7 +53,7 @@ loop-holds c =
 
 returns : tie.Need-returns Inv-loop μ-loop
 returns c =
-    let x = c .before .before .before .before .before .before .before in
+    let x = start-from-then1 c in
     let h = x .pre in
     let (la, ha) = h .1 .1 .1 in
     let i = c .before .before .loop .inv in
@@ -38,27 +62,27 @@ returns c =
 
 cast-meet : tie.Need-cast-meet Inv-loop μ-loop
 cast-meet c =
-    let x = c .before .before .before .before .before .before .before .before .args in
+    let x = start-from-shared-slice-known5 c .args in
     omega (arith, c .shared-slice-known5 .given (commands (x .c .now) + 2 * c .before .before .before .loop .at))
 
 meet-requires : tie.Need-meet-requires Inv-loop μ-loop
 meet-requires c κs =
-    let x = c .before .before .before .before .before .before .before .before .before .before in
-    let w = c .before .before .before .before .before .loop in
+    let x = start-from-meet-arg2 c in
+    let w = at-loop-from-meet-arg2 c .loop in
     let f = command-fit (x .args .c .now) (x .pre .0) (w .at) (omega arith) (w .inv .0 .within) in
     (w .inv .0 .shape, (w .inv .1 .shape, ((x .pre .1 .1 .1 .0, omega (arith, x .pre .0 .framed .few)), f)))
 
 cast-at-2 : tie.Need-cast-at-2 Inv-loop μ-loop
 cast-at-2 c =
-    let x = c .before .before .before .before .before .before .before .before .before .before .before .before .args in
-    let at = c .before .before .before .before .before .before .before .loop .at in
+    let x = start-from-shared-slice-known6 c .args in
+    let at = at-loop-from-shared-slice-known6 c .loop .at in
     omega (arith, c .shared-slice-known6 .given (commands (x .c .now) + 2 * at + 1))
 
 loop-again : tie.Need-loop-again Inv-loop μ-loop
 loop-again c =
-    let x = c .before .before .before .before .before .before .before .before .before .before .before .before in
+    let x = start-from-shared-slice-known6 c in
     let h = x .pre in
-    let w = c .before .before .before .before .before .before .before .loop .inv in
+    let w = at-loop-from-shared-slice-known6 c .loop .inv in
     let (la, ha) = h .1 .1 .1 in (
       walk-again (x .args .c .now) (h .0) (x .args .a) la ha (w .0) (omega arith) (omega arith)
           (c .before .meet .ensures .0),
@@ -68,7 +92,7 @@ loop-again c =
 
 returns-2 : tie.Need-returns-2 Inv-loop μ-loop
 returns-2 c =
-    let x = c .before .before .before .before .before .before in
+    let x = start-from-loop c in
     let h = x .pre in
     let (la, ha) = h .1 .1 .1 in
     let i = c .before .loop .inv in

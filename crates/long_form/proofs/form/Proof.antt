@@ -4,14 +4,22 @@ use Rattle.long_form.specs.FormingLaws.{formable-within}
 use Rattle.long_form.proofs.form.Statement.{statement}
 use Rattle.long_form.proofs.form.Tie as tie
 
+-- places on the way
+
+abbrev start-from-form-2048-arg : tie.After-form-2048-arg → tie.Start
+start-from-form-2048-arg c = c .before .before .before .before .before
+
+abbrev start-from-form-8192-arg : tie.After-form-8192-arg → tie.Start
+start-from-form-8192-arg c = c .before .before .before .before .before .before
+
 form-1024-requires : tie.Need-form-1024-requires
 form-1024-requires c κs = formable-within (c .before .if1 .taken) (c .before .before .before .before .pre)
 
 form-2048-requires : tie.Need-form-2048-requires
-form-2048-requires c κs = formable-within (c .before .if2 .taken) (c .before .before .before .before .before .pre)
+form-2048-requires c κs = formable-within (c .before .if2 .taken) (start-from-form-2048-arg c .pre)
 
 form-8192-requires : tie.Need-form-8192-requires
-form-8192-requires c κs = formable-within (c .before .if3 .taken) (c .before .before .before .before .before .before .pre)
+form-8192-requires c κs = formable-within (c .before .if3 .taken) (start-from-form-8192-arg c .pre)
 
 pub form-spec : {M : Type 1} → statement M
 form-spec =

@@ -16,8 +16,19 @@ Inv-loop word conflicts under link tops₀ blanks₀ area₀ l₀ k₀ tops blan
 abbrev μ-loop : tie.MeasureT-loop
 μ-loop word conflicts under link tops₀ blanks₀ area₀ l₀ k₀ tops blanks area l k = length area₀ - l
 
+-- places on the way
+
+abbrev at-loop-from-line2 : tie.After-line2 Inv-loop μ-loop → tie.At-loop Inv-loop μ-loop
+at-loop-from-line2 c = c .before .before .before .before .before .before .before
+
+abbrev at-loop-from-ready2 : tie.After-ready2 Inv-loop μ-loop → tie.At-loop Inv-loop μ-loop
+at-loop-from-ready2 c = c .before .before .before .before .before .before .before .before .before .before
+
+abbrev start : tie.After-ready Inv-loop μ-loop → tie.Start Inv-loop μ-loop
+start c = c .before .before .before .before .before .before
+
 loop-holds : tie.Need-loop-holds Inv-loop μ-loop
-loop-holds c = underway-start (c .before .before .before .before .before .before .pre) (c .ready .ensures)
+loop-holds c = underway-start (start c .pre) (c .ready .ensures)
 
 cast-area : tie.Need-cast-area Inv-loop μ-loop
 cast-area c = omega (arith, underway-cuttable (c .before .before .loop .inv) (omega arith) .low)
@@ -38,17 +49,17 @@ add-l c =
 
 cut-requires : tie.Need-cut-requires Inv-loop μ-loop
 cut-requires c κs =
-    let l = c .before .before .before .before .before .before .before in
+    let l = at-loop-from-line2 c in
     underway-cuttable (l .loop .inv) (omega arith)
 
 loop-less : tie.Need-loop-less Inv-loop μ-loop
 loop-less c =
-    let l = c .before .before .before .before .before .before .before .before .before .before in
+    let l = at-loop-from-ready2 c in
     omega (arith, underway-fits (l .loop .inv) (omega arith), underway-long (l .loop .inv))
 
 loop-again : tie.Need-loop-again Inv-loop μ-loop
 loop-again c =
-    let l = c .before .before .before .before .before .before .before .before .before .before in
+    let l = at-loop-from-ready2 c in
     underway-again (l .loop .inv) (omega arith) (c .before .before .cut .ensures) (c .ready2 .ensures)
 
 same-length : tie.Need-same-length Inv-loop μ-loop

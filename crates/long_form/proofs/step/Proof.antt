@@ -10,6 +10,23 @@ use Rattle.long_form.specs.ReducingLaws.{reducing-cuttable, reducing-cut
 use Rattle.long_form.proofs.step.Statement.{statement}
 use Rattle.long_form.proofs.step.Tie as tie
 
+-- places on the way
+
+abbrev else1 : tie.After-line3 → tie.Else1
+else1 c = c .before .before .before .before .before .before .before .before
+
+abbrev joined2 : tie.After-put → tie.Joined2
+joined2 c = c .before .before .before .before .before .before
+
+abbrev start-from-then1 : tie.Then1 → tie.Start
+start-from-then1 c = c .before .before .before .before .before
+
+abbrev then3-from-line2 : tie.After-line2 → tie.Then3
+then3-from-line2 c = c .before .before .before .before .before
+
+abbrev then3-from-cut : tie.After-cut → tie.Then3
+then3-from-cut c = c .before .before .before .before .before .before
+
 -- the places on the way: past the test for a filler, past the test for blanks, past the test for the undo
 abbrev start : tie.Else1 → tie.Start
 start c = c .before .before .before .before .before
@@ -26,7 +43,7 @@ shared-slice-read-a c =
     reducing-within (s .args .p) (s .pre .1)
 
 returns : tie.Need-returns
-returns c = λ k r. reducing-filler (c .before .before .before .before .before .args .p) r (c .if1 .taken)
+returns c = λ k r. reducing-filler (start-from-then1 c .args .p) r (c .if1 .taken)
 
 sub-k : tie.Need-sub-k
 sub-k c =
@@ -67,14 +84,14 @@ shared-slice-read-if3 c =
 
 cut-requires : tie.Need-cut-requires
 cut-requires c κs =
-    let t = bare (c .before .before .before .before .before) in
+    let t = bare (then3-from-line2 c) in
     let l = letter t in
     let s = start l in
     reducing-cuttable (s .args .p) (s .pre .1) refl refl (l .if1 .left) (t .if2 .taken)
 
 returns-2 : tie.Need-returns-2
 returns-2 c =
-    let u = c .before .before .before .before .before .before in
+    let u = then3-from-cut c in
     let t = bare u in
     let l = letter t in
     λ k r. reducing-cut (start l .args .p) r refl refl (l .if1 .left) (t .if2 .taken)
@@ -82,14 +99,14 @@ returns-2 c =
 
 put-requires : tie.Need-put-requires
 put-requires c κs =
-    let l = c .before .before .before .before .before .before .before .before in
+    let l = else1 c in
     let s = start l in
     reducing-puttable (s .args .p) (s .pre .1) refl refl (l .if1 .left)
 
 returns-3 : tie.Need-returns-3
 returns-3 c =
     let p = c .before .before .before .before in
-    let j = p .before .before .before .before .before .before in
+    let j = joined2 p in
     let l = j .before .before .before in
     λ k r. reducing-put (start l .args .p) r refl refl (l .if1 .left)
     (λ z e. ⊎-elim (λ w. w .4 .left (e ∙ sym (w .3 .ensures))) (λ w. w .left z) (j .if2 .came))

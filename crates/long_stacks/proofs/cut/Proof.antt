@@ -7,9 +7,14 @@ use Rattle.long_stacks.specs.MovesLaws.{changed-but}
 use Rattle.long_stacks.proofs.cut.Statement.{statement}
 use Rattle.long_stacks.proofs.cut.Tie as tie
 
+-- places on the way
+
+abbrev start : tie.After-shared-slice-known4 → tie.Start
+start c = c .before .before .before .before .before .before .before
+
 returns : tie.Need-returns
 returns c =
-    let s = c .before .before .before .before .before .before .before in
+    let s = start c in
     let b = s .args .blanks .now in
     let k = s .args .k in
     record {

@@ -6,9 +6,14 @@ use Rattle.long_stacks.specs.MovesLaws.{changed-but}
 use Rattle.long_stacks.proofs.put.Statement.{statement}
 use Rattle.long_stacks.proofs.put.Tie as tie
 
+-- places on the way
+
+abbrev start : tie.After-lift → tie.Start
+start c = c .before .before .before .before .before .before
+
 returns : tie.Need-returns
 returns c =
-    let s = c .before .before .before .before .before .before in
+    let s = start c in
     record {
       unders = refl;
       links = refl;

@@ -6,12 +6,23 @@ use borrow.Author.Needs.{needs}
 use Rattle.loops_framing.proofs.framed.Statement.{statement}
 use Rattle.loops_framing.proofs.framed.Tie as tie
 
+-- places on the way
+
+abbrev else1 : tie.Else2 → tie.Else1
+else1 c = c .before .before .before .before .before
+
+abbrev start-from-then2 : tie.Then2 → tie.Start
+start-from-then2 c = c .before .before .before .before .before .before .before
+
+abbrev start-from-else2 : tie.Else2 → tie.Start
+start-from-else2 c = c .before .before .before .before .before .before .before
+
 returns : tie.Need-returns
 returns c = long-badly (c .before .before .args .s .now) (c .if1 .taken)
 
 returns-2 : tie.Need-returns-2
 returns-2 c =
-    other-badly (c .before .before .before .before .before .before .before .args .s .now)
+    other-badly (start-from-then2 c .args .s .now)
     (ap₂ (λ (a b : ℕ). 2 + a + 2 * b)
     (c .before .before .before .before .byte-at .ensures .0)
     (c .before .before .before .byte-at2 .ensures .0))
@@ -20,12 +31,12 @@ returns-2 c =
 
 returns-3 : tie.Need-returns-3
 returns-3 c =
-    whole-well (c .before .before .before .before .before .before .before .args .s .now)
+    whole-well (start-from-else2 c .args .s .now)
     (ap₂ (λ (a b : ℕ). 2 + a + 2 * b)
     (c .before .before .before .before .byte-at .ensures .0)
     (c .before .before .before .byte-at2 .ensures .0))
     (c .before .before .plan-end .ensures .0)
-    (c .before .plan-end2 .ensures .0) (c .before .before .before .before .before .if1 .left) (c .if2 .left)
+    (c .before .plan-end2 .ensures .0) (else1 c .if1 .left) (c .if2 .left)
 
 pub framed-spec : {M : Type 1} → statement M
 framed-spec =

@@ -5,14 +5,28 @@ use borrow.Author.Needs.{needs}
 use Rattle.loops_listing.proofs.put_refusal.Statement.{statement}
 use Rattle.loops_listing.proofs.put_refusal.Tie as tie
 
+-- places on the way
+
+abbrev after-append : tie.After-put-decimal → tie.After-append
+after-append c = c .before .before .before .before .before
+
+abbrev after-append2 : tie.After-put-decimal2 → tie.After-append2
+after-append2 c = c .before .before .before .before .before
+
+abbrev after-put-decimal : tie.After-append2 → tie.After-put-decimal
+after-put-decimal c = c .before .before .before .before .before
+
+abbrev after-put-decimal2 : tie.After-append3 → tie.After-put-decimal2
+after-put-decimal2 c = c .before .before .before .before .before
+
 returns : tie.Need-returns
 returns c =
     let c6 = c .before .before in
     let c5 = c6 .before .before .before .before in
-    let c4 = c5 .before .before .before .before .before in
-    let c3 = c4 .before .before .before .before .before in
-    let c2 = c3 .before .before .before .before .before in
-    let c1 = c2 .before .before .before .before .before in
+    let c4 = after-put-decimal2 c5 in
+    let c3 = after-append2 c4 in
+    let c2 = after-put-decimal c3 in
+    let c1 = after-append c2 in
     let start = c1 .before .before .before .before in
     put-refused (lineOf (start .args .refusal)) (c2 .before .number .result) (c2 .before .number .ensures)
     (c1 .append .ensures)

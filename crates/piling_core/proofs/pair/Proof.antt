@@ -15,6 +15,14 @@ Inv-loop rows heights at i₀ i = NoneBelow (Pair rows heights at) i
 abbrev μ-loop : tie.MeasureT-loop
 μ-loop rows heights at i₀ i = 24 - i
 
+-- places on the way
+
+abbrev at-loop-from-then1 : tie.Then1 Inv-loop μ-loop → tie.At-loop Inv-loop μ-loop
+at-loop-from-then1 c = c .before .before .before .before .before .before
+
+abbrev at-loop-from-else1 : tie.Else1 Inv-loop μ-loop → tie.At-loop Inv-loop μ-loop
+at-loop-from-else1 c = c .before .before .before .before .before .before
+
 loop-holds : tie.Need-loop-holds Inv-loop μ-loop
 loop-holds c = none-start _
 
@@ -26,12 +34,12 @@ ends-requires c κs =
 
 returns : tie.Need-returns Inv-loop μ-loop
 returns c =
-    let l = c .before .before .before .before .before .before in
+    let l = at-loop-from-then1 c in
     first-found (l .loop .inv) (omega arith) (c .before .ends .ensures .0 (c .if1 .taken))
 
 loop-again : tie.Need-loop-again Inv-loop μ-loop
 loop-again c =
-    let l = c .before .before .before .before .before .before in
+    let l = at-loop-from-else1 c in
     none-again (l .loop .inv) (omega arith)
     (λ o. true≢false (sym (c .before .ends .ensures .1 o) ∙ c .if1 .left))
 

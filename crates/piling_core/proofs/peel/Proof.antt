@@ -14,6 +14,26 @@ Inv-loop rows heights₀ at₀ conflicts lead₀ l₀ k₀ heights at lead l k =
 abbrev μ-loop : tie.MeasureT-loop
 μ-loop rows heights₀ at₀ conflicts lead₀ l₀ k₀ heights at lead l k = length lead - l
 
+-- places on the way
+
+abbrev in-loop-from-narrow-arg3 : tie.After-narrow-arg3 Inv-loop μ-loop → tie.In-loop Inv-loop μ-loop
+in-loop-from-narrow-arg3 c = c .before .before .before .before .before
+
+abbrev in-loop-from-pair-arg4 : tie.After-pair-arg4 Inv-loop μ-loop → tie.In-loop Inv-loop μ-loop
+in-loop-from-pair-arg4 c = c .before .before .before .before .before .before .before .before
+
+abbrev in-loop-from-pair2 : tie.After-pair2 Inv-loop μ-loop → tie.In-loop Inv-loop μ-loop
+in-loop-from-pair2 c = c .before .before .before .before .before .before .before .before .before
+
+abbrev start-from-loop : tie.At-loop Inv-loop μ-loop → tie.Start Inv-loop μ-loop
+start-from-loop c = c .before .before .before .before .before
+
+abbrev start-from-loop-2 : tie.In-loop Inv-loop μ-loop → tie.Start Inv-loop μ-loop
+start-from-loop-2 c = c .before .before .before .before .before .before
+
+abbrev start-from-loop-3 : tie.After-loop Inv-loop μ-loop → tie.Start Inv-loop μ-loop
+start-from-loop-3 c = c .before .before .before .before .before .before
+
 -- the bead that is read, and the place that is written, are there
 index : (c : tie.In-loop Inv-loop μ-loop) → getD (c .before .loop .at) (c .before .loop .k) 0 < 1024
 index c =
@@ -41,32 +61,32 @@ slice-write-lead c = fits (c .before .before)
 add-l : tie.Need-add-l Inv-loop μ-loop
 add-l c =
     let a = c .before .before .before in
-    let z = a .before .before .before .before .before in
+    let z = start-from-loop a in
     omega (arith, fits (c .before .before), taken-long (a .loop .inv) (z .pre), z .good .1 .1 .1 .1 .0)
 
 narrow-requires : tie.Need-narrow-requires Inv-loop μ-loop
 narrow-requires c κs =
-    let i = c .before .before .before .before .before in
-    taken-movable (i .before .loop .inv) (i .loop-test .taken) (i .before .before .before .before .before .before .pre)
+    let i = in-loop-from-narrow-arg3 c in
+    taken-movable (i .before .loop .inv) (i .loop-test .taken) (start-from-loop-2 i .pre)
 
 pair-requires-2 : tie.Need-pair-requires-2 Inv-loop μ-loop
 pair-requires-2 c κs =
-    let i = c .before .before .before .before .before .before .before .before in
-    taken-room (i .before .loop .inv) (i .loop-test .taken) (i .before .before .before .before .before .before .pre)
+    let i = in-loop-from-pair-arg4 c in
+    taken-room (i .before .loop .inv) (i .loop-test .taken) (start-from-loop-2 i .pre)
     (c .before .before .narrow .ensures)
 
 loop-less : tie.Need-loop-less Inv-loop μ-loop
 loop-less c =
-    simp length-set (omega (arith, fits (c .before .before .before .before .before .before .before .before .before)))
+    simp length-set (omega (arith, fits (in-loop-from-pair2 c)))
 
 loop-again : tie.Need-loop-again Inv-loop μ-loop
 loop-again c =
-    let i = c .before .before .before .before .before .before .before .before .before in
+    let i = in-loop-from-pair2 c in
     taken-again (i .before .loop .inv) (i .loop-test .taken)
     (c .before .before .before .narrow .ensures) (c .pair2 .ensures)
 
 same-length : tie.Need-same-length Inv-loop μ-loop
-same-length c = taken-long (c .before .loop .inv) (c .before .before .before .before .before .before .pre)
+same-length c = taken-long (c .before .loop .inv) (start-from-loop-3 c .pre)
 
 returns : tie.Need-returns Inv-loop μ-loop
 returns c = taken-end (c .before .loop .inv) (c .loop-test .left)

@@ -13,6 +13,14 @@ Inv-loop w conflicts rows₀ heights₀ n i₀ spare₀ rows heights i spare =
 abbrev μ-loop : tie.MeasureT-loop
 μ-loop w conflicts rows₀ heights₀ n i₀ spare₀ rows heights i spare = i
 
+-- places on the way
+
+abbrev in-loop-from-then2 : tie.Then2 Inv-loop μ-loop → tie.In-loop Inv-loop μ-loop
+in-loop-from-then2 c = c .before .before .before .before .before
+
+abbrev in-loop-from-else2 : tie.Else2 Inv-loop μ-loop → tie.In-loop Inv-loop μ-loop
+in-loop-from-else2 c = c .before .before .before .before .before
+
 returns : tie.Need-returns Inv-loop μ-loop
 returns c = λ k z o. tells-not (undoing-many (c .if1 .taken) k z o)
 
@@ -30,13 +38,13 @@ undo-byte-requires c κs =
 
 returns-2 : tie.Need-returns-2 Inv-loop μ-loop
 returns-2 c = λ k z o.
-    let l = c .before .before .before .before .before in
+    let l = in-loop-from-then2 c in
     tells-not
     (undoing-over (l .before .loop .inv) (omega arith) (c .before .undo-byte .ensures) (c .if2 .taken) k z o)
 
 loop-again : tie.Need-loop-again Inv-loop μ-loop
 loop-again c =
-    let l = c .before .before .before .before .before in
+    let l = in-loop-from-else2 c in
     undoing-again (l .before .loop .inv) (omega arith) (c .before .undo-byte .ensures) (c .if2 .left)
 
 returns-3 : tie.Need-returns-3 Inv-loop μ-loop

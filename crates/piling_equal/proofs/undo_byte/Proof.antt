@@ -6,6 +6,11 @@ use Rattle.piling_equal.specs.ComparingLaws.{put-undone}
 use Rattle.piling_equal.proofs.undo_byte.Statement.{statement}
 use Rattle.piling_equal.proofs.undo_byte.Tie as tie
 
+-- places on the way
+
+abbrev else2 : tie.After-put → tie.Else2
+else2 c = c .before .before .before .before .before
+
 -- the place where the letter is known
 abbrev known : tie.After-cancel → tie.After-opposite
 known c = c .before .before .before .before
@@ -56,7 +61,7 @@ put-requires c κs =
 
 returns-4 : tie.Need-returns-4
 returns-4 c = λ k z u.
-    let a = c .before .before .before .before .before in
+    let a = else2 c in
     let o = known (a .before) in
     let n = o .before .before .if1 .left in
     let e = o .opposite .ensures in

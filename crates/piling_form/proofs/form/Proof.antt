@@ -6,9 +6,14 @@ use Rattle.piling_form.specs.CoringLaws.{form-starts}
 use Rattle.piling_form.proofs.form.Statement.{statement}
 use Rattle.piling_form.proofs.form.Tie as tie
 
+-- places on the way
+
+abbrev start : tie.After-lead → tie.Start
+start c = c .before .before .before .before .before
+
 form-of-requires : tie.Need-form-of-requires
 form-of-requires c κs =
-    let s = c .before .before .before .before .before in (
+    let s = start c in (
       s .pre .0,
       s .pre .1,
       record {

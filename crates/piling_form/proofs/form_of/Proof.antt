@@ -10,6 +10,11 @@ use borrow.Author.Needs.{needs}
 use Rattle.piling_form.proofs.form_of.Statement.{statement}
 use Rattle.piling_form.proofs.form_of.Tie as tie
 
+-- places on the way
+
+abbrev after-heights : tie.After-peel-if-arg → tie.After-heights
+after-heights c = c .before .before .before .before .before .before
+
 abbrev start : tie.After-heights → tie.Start
 start h = h .before .before .before .before .before .before .before
 
@@ -43,14 +48,14 @@ pile-requires c κs =
 
 peel-if-requires : tie.Need-peel-if-requires
 peel-if-requires c κs =
-    let k = start (c .before .before .before .before .before .before) .pre .0 in
+    let k = start (after-heights c) .pre .0 in
     (k, reverse (reduced k (plan c k)), peelable c k (here c k .pre .1))
 
 read-off-requires : tie.Need-read-off-requires
 read-off-requires c κs =
     let e = c .before .before .before in
     let a = e .before in
-    let s = start (a .before .before .before .before .before .before) in
+    let s = start (after-heights a) in
     let k = s .pre .0 in
     let q = e .peel-if .ensures k (reverse (reduced k (s .args .plan .now))) (peelable a k (s .pre .1)) in
     (k, q .0, remains-readable (s .pre .1) (s .args .area .now) (q .1) (s .pre .2 .wide))
@@ -60,7 +65,7 @@ returns c =
     let o = c .before .before in
     let e = o .before .before .before .before in
     let a = e .before in
-    let s = start (a .before .before .before .before .before .before) in
+    let s = start (after-heights a) in
     λ k p.
     let q = e .peel-if .ensures k (reverse (reduced k (s .args .plan .now))) (peelable a k p) in
     remains-form (q .1) (s .pre .2 .deep)

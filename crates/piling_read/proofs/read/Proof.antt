@@ -14,6 +14,23 @@ Inv-loop rows heights at₀ conflicts area₀ starts l₀ k₀ at area l k =
 abbrev μ-loop : tie.MeasureT-loop
 μ-loop rows heights at₀ conflicts area₀ starts l₀ k₀ at area l k = length area - l
 
+-- places on the way
+
+abbrev in-loop-from-next-arg : tie.After-next-arg Inv-loop μ-loop → tie.In-loop Inv-loop μ-loop
+in-loop-from-next-arg c = c .before .before .before .before .before .before
+
+abbrev in-loop-from-next : tie.After-next Inv-loop μ-loop → tie.In-loop Inv-loop μ-loop
+in-loop-from-next c = c .before .before .before .before .before .before .before
+
+abbrev start-from-loop : tie.At-loop Inv-loop μ-loop → tie.Start Inv-loop μ-loop
+start-from-loop c = c .before .before .before .before .before
+
+abbrev start-from-loop-2 : tie.In-loop Inv-loop μ-loop → tie.Start Inv-loop μ-loop
+start-from-loop-2 c = c .before .before .before .before .before .before
+
+abbrev start-from-loop-3 : tie.After-loop Inv-loop μ-loop → tie.Start Inv-loop μ-loop
+start-from-loop-3 c = c .before .before .before .before .before .before
+
 index : (c : tie.In-loop Inv-loop μ-loop) → getD (c .before .loop .at) (c .before .loop .k) 0 < 1024
 index c =
     let s = c .before .before .before .before .before .before in
@@ -45,24 +62,24 @@ slice-write-area c = fits (c .before .before)
 add-l : tie.Need-add-l Inv-loop μ-loop
 add-l c =
     let a = c .before .before .before in
-    let s = a .before .before .before .before .before in
+    let s = start-from-loop a in
     omega (arith, fits (c .before .before), written-long (a .loop .inv) (s .pre), s .good .1 .1 .1 .1 .0)
 
 lift-requires : tie.Need-lift-requires Inv-loop μ-loop
 lift-requires c κs =
     let i = c .before .before .before .before in
-    written-lift (i .before .loop .inv) (i .loop-test .taken) (i .before .before .before .before .before .before .pre)
+    written-lift (i .before .loop .inv) (i .loop-test .taken) (start-from-loop-2 i .pre)
 
 cast-next : tie.Need-cast-next Inv-loop μ-loop
 cast-next c =
-    let i = c .before .before .before .before .before .before in
+    let i = in-loop-from-next-arg c in
     let s = i .before .before .before .before .starts .ensures in
     omega (arith, s .within (i .before .loop .k) (i .loop-test .taken))
 
 next-requires : tie.Need-next-requires Inv-loop μ-loop
 next-requires c κs =
-    let i = c .before .before .before .before .before .before in
-    let p = i .before .before .before .before .before .before .pre in
+    let i = in-loop-from-next-arg c in
+    let p = start-from-loop-2 i .pre in
     let s = i .before .before .before .before .starts .ensures in (
       written-room (i .before .loop .inv) (i .loop-test .taken) p (c .before .lift .ensures),
       written-passed (i .before .loop .inv) (i .loop-test .taken) p s (c .before .lift .ensures),
@@ -70,16 +87,16 @@ next-requires c κs =
 
 loop-less : tie.Need-loop-less Inv-loop μ-loop
 loop-less c =
-    let i = c .before .before .before .before .before .before .before in
+    let i = in-loop-from-next c in
     simp length-set (omega (arith, fits i))
 
 loop-again : tie.Need-loop-again Inv-loop μ-loop
 loop-again c =
-    let i = c .before .before .before .before .before .before .before in
+    let i = in-loop-from-next c in
     written-again (i .before .loop .inv) (i .loop-test .taken) (c .before .before .lift .ensures) (c .next .ensures)
 
 same-length : tie.Need-same-length Inv-loop μ-loop
-same-length c = written-long (c .before .loop .inv) (c .before .before .before .before .before .before .pre)
+same-length c = written-long (c .before .loop .inv) (start-from-loop-3 c .pre)
 
 returns : tie.Need-returns Inv-loop μ-loop
 returns c = written-end (c .before .loop .inv) (c .loop-test .left)

@@ -15,6 +15,11 @@ Inv-loop rows heights at k₀ k = NoneBelow (Ready rows heights at) k
 abbrev μ-loop : tie.MeasureT-loop
 μ-loop rows heights at k₀ k = 24 - k
 
+-- places on the way
+
+abbrev in-loop : tie.Then2 Inv-loop μ-loop → tie.In-loop Inv-loop μ-loop
+in-loop c = c .before .before .before .before .before .before
+
 loop-holds : tie.Need-loop-holds Inv-loop μ-loop
 loop-holds c = none-start _
 
@@ -26,7 +31,7 @@ index-2-if1 c = in-row _
 
 returns : tie.Need-returns Inv-loop μ-loop
 returns c =
-    let i = c .before .before .before .before .before .before in
+    let i = in-loop c in
     let t = c .before .before .before .if1 .taken in
     let r = ready-wrapped (i .before .before .pre) (i .loop-test .taken) t (c .if2 .taken) in
     first-found (i .before .loop .inv) (i .loop-test .taken) r

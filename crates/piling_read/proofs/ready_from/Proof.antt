@@ -17,6 +17,11 @@ Inv-loop rows heights at start k₀ k = NoneBelow (Ready rows heights at) k
 abbrev μ-loop : tie.MeasureT-loop
 μ-loop rows heights at start k₀ k = 24 - k
 
+-- places on the way
+
+abbrev in-loop : tie.Then2 Inv-loop μ-loop → tie.In-loop Inv-loop μ-loop
+in-loop c = c .before .before .before .before .before .before
+
 -- a bead that is left is one of the row's 1,024
 index : (c : tie.Then1 Inv-loop μ-loop)
     → let a = c .before .before .before .before in getD (now (a .before .args .at)) (a .loop .k) 0 < 1024
@@ -35,7 +40,7 @@ index-2-if2 c = index (c .before)
 
 returns : tie.Need-returns Inv-loop μ-loop
 returns c =
-    let i = c .before .before .before .before .before .before in
+    let i = in-loop c in
     let t = c .before .before .before .if1 .taken in
     first-found (i .before .loop .inv) (i .loop-test .taken) (t, c .if2 .taken)
 

@@ -12,6 +12,14 @@ Inv-loop conflicts counts₀ free₀ j₀ counts free j = Counting conflicts cou
 abbrev μ-loop : tie.MeasureT-loop
 μ-loop conflicts counts₀ free₀ j₀ counts free j = 24 - j
 
+-- places on the way
+
+abbrev in-loop-from-free2 : tie.After-free2 Inv-loop μ-loop → tie.In-loop Inv-loop μ-loop
+in-loop-from-free2 c = c .before .before .before .before .before
+
+abbrev in-loop-from-lift : tie.After-lift Inv-loop μ-loop → tie.In-loop Inv-loop μ-loop
+in-loop-from-lift c = c .before .before .before .before .before .before
+
 loop-holds : tie.Need-loop-holds Inv-loop μ-loop
 loop-holds c = counting-start (c .before .blank-heights .ensures) (c .ones .ensures)
 
@@ -22,12 +30,12 @@ clear-requires c κs =
 
 lift-requires : tie.Need-lift-requires Inv-loop μ-loop
 lift-requires c κs =
-    let i = c .before .before .before .before .before in
+    let i = in-loop-from-free2 c in
     counting-room (i .before .loop .inv) (i .loop-test .taken) (c .before .before .clear .ensures)
 
 loop-again : tie.Need-loop-again Inv-loop μ-loop
 loop-again c =
-    let i = c .before .before .before .before .before .before in
+    let i = in-loop-from-lift c in
     counting-again (i .before .loop .inv) (i .loop-test .taken) (c .before .before .before .clear .ensures)
     (c .lift .ensures)
 

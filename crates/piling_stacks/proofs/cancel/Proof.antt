@@ -15,6 +15,14 @@ use Rattle.piling_stacks.specs.PilingLaws.{none-off}
 use Rattle.piling_stacks.proofs.cancel.Statement.{statement}
 use Rattle.piling_stacks.proofs.cancel.Tie as tie
 
+-- places on the way
+
+abbrev start-from-lower-arg : tie.After-lower-arg → tie.Start
+start-from-lower-arg c = c .before .before .before .before .before .before
+
+abbrev start-from-lower : tie.After-lower → tie.Start
+start-from-lower c = c .before .before .before .before .before .before .before
+
 high : (s : tie.Start) → getD (s .args .heights .now) (s .args .k) 0 ≤ 1024
 high s = facing-high (s .pre .2) (s .args .k) (s .pre .2 .within)
 
@@ -35,11 +43,11 @@ opposite-requires c κs = omega (arith, c .before .before .before .pre .2 .own)
 
 lower-requires : tie.Need-lower-requires
 lower-requires c κs =
-    let r = c .before .before .before .before .before .before .pre .2 in
+    let r = start-from-lower-arg c .pre .2 in
     cut-room r (first-at (c .before) r)
 
 index-2-rows : tie.Need-index-2-rows
-index-2-rows c = omega (arith, high (c .before .before .before .before .before .before .before))
+index-2-rows c = omega (arith, high (start-from-lower c))
 
 returns : tie.Need-returns
 returns c = λ k z r. let f = first-at (c .before .before) r in gone-off f (cut-acts r f (c .lower .ensures))

@@ -17,6 +17,11 @@ Inv-loop plan conflicts rows₀ heights₀ n₀ i₀ rows heights n i = Piling p
 abbrev μ-loop : tie.MeasureT-loop
 μ-loop plan conflicts rows₀ heights₀ n₀ i₀ rows heights n i = length plan - i
 
+-- places on the way
+
+abbrev start : tie.Then1 Inv-loop μ-loop → tie.Start Inv-loop μ-loop
+start c = c .before .before .before .before .before
+
 loop-holds : tie.Need-loop-holds Inv-loop μ-loop
 loop-holds c = piling-start
 
@@ -42,7 +47,7 @@ element-copy-out-line c = omega (arith, range-at c)
 push-requires : tie.Need-push-requires Inv-loop μ-loop
 push-requires c κs =
     let t = c .before .before .before .before in
-    let g = t .before .before .before .before .before .pre in
+    let g = start t .pre in
     let h = t .before .before .before .loop in (
       g .0,
       reduced (g .0) (take (h .i) _),
