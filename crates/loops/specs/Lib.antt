@@ -1,1 +1,2 @@
+pub mod CoreVerdict
 pub mod ProgramLaws

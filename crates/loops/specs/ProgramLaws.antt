@@ -29,7 +29,8 @@ use Rattle.loops_framing.specs.FramingLaws.{badly-tells, well-tells, Laid, laid
 use Rattle.loops_framing.specs.declared.Frame.{Frame}
 use Rattle.loops_framing.specs.declared.Frame.the-variants.{Badly, Well}
 use Rattle.loops_framing.specs.declared.Places.{Places}
-use Rattle.spec.specs.Program.{coreLines, programLines, coreVerdict, joined-step, loopsVerdict, programAnswer}
+use Rattle.loops.specs.CoreVerdict.{coreVerdict}
+use Rattle.spec.specs.Program.{coreLines, programLines, joined-step, loopsVerdict, programAnswer}
 
 -- Areas that are large enough
 

@@ -31,15 +31,15 @@ toldLoops loops.Apart = given none
 toldLoops (loops.Refused r) = refused (lineOf r)
 
 -- yes or no, with the lengths of both normal forms
-pub record Checked : Type 0 where
+pub record CheckedLeadIn : Type 0 where
   pub yes : Bool
   pub vu : ℕ
   pub uw : ℕ
 
-abbrev checked : Bool → Lengths → Checked
+abbrev checked : Bool → Lengths → CheckedLeadIn
 checked b l = record { yes = b; vu = l .vu; uw = l .uw }
 
-abbrev pub toldLeadIn : LeadIn → Answer Checked
+abbrev pub toldLeadIn : LeadIn → Answer CheckedLeadIn
 toldLeadIn (lead-in.Yes l) = given (checked true l)
 toldLeadIn (lead-in.No l) = given (checked false l)
 toldLeadIn (lead-in.Refused r) = refused (lineOf r)

@@ -7,7 +7,7 @@ use mathlib.Core.List.{List}
 use mathlib.Core.Option.{Option, none, some}
 use lib.IntN.{ℤ, pos, negℤ}
 use Rattle.spec.specs.Table.{Answer, refused, given}
-use Rattle.spec.specs.Answers.{Checked}
+use Rattle.spec.specs.Answers.{CheckedLeadIn}
 use Rattle.spec.specs.Loops.{Looped}
 
 abbrev pub code : {A : Type 0} → (A → ℕ) → Answer A → ℤ
@@ -31,7 +31,7 @@ equalCode = code yesNo
 abbrev pub loopsCode : Answer (Option ℕ) → ℤ
 loopsCode = code leadInCode
 
-abbrev pub checkCode : Answer Checked → ℤ
+abbrev pub checkCode : Answer CheckedLeadIn → ℤ
 checkCode = code (λ k. yesNo (k .yes))
 
 -- the number and the final area of the loops call, whose lead-in is left free

@@ -13,7 +13,7 @@ use Rattle.spec.specs.Table.{Line, refused, given, firstLine, orElse, No
 use Rattle.spec.specs.Step.{Equal}
 use Rattle.spec.specs.Order.{Earlier}
 use Rattle.spec.specs.Join.{Joins}
-use Rattle.spec.specs.Answers.{Checked}
+use Rattle.spec.specs.Answers.{CheckedLeadIn}
 use Rattle.spec.specs.Calls.{areaAfter, normalFormAnswer, normalFormArea, equalAnswer}
 use Rattle.spec.specs.Loops.{Looped, LeadIn, checkAnswer}
 use Rattle.spec.specs.Framing.{Framed, wellFramed, catalogueOf, plan1Of, plan2Of}
@@ -53,7 +53,7 @@ pub record Demand3 : Type 0 where
   pub loops : {c v w area after : List ℕ} {o : Option ℕ} → Looped c v w area (given o) after → Exact c v w o
   pub lead-in : {c v w area after : List ℕ} {l : ℕ} → Looped c v w area (given (some l)) after
       → (length (take l after) ≡ l) × LeadIn c v w (take l after) × (drop l after ≡ drop l area)
-  pub check : (c v w u area0 area1 : List ℕ) (k : Checked) → checkAnswer c v w u area0 area1 ≡ given k
+  pub check : (c v w u area0 area1 : List ℕ) (k : CheckedLeadIn) → checkAnswer c v w u area0 area1 ≡ given k
       → (k .yes ≡ true) ↔ Joins c v w u
 
 -- The program's input is computed to be well framed exactly if it is some catalogue and two plans, well framed, and

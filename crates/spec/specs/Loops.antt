@@ -17,7 +17,7 @@ use Rattle.spec.specs.Plan.{planLines}
 use Rattle.spec.specs.Letters.{letters, alphabet, normalForm}
 use Rattle.spec.specs.Join.{Joins}
 use Rattle.spec.specs.Calls.{planLimit, areaLine, areaAfter}
-use Rattle.spec.specs.Answers.{Checked}
+use Rattle.spec.specs.Answers.{CheckedLeadIn}
 
 -- Loops
 
@@ -75,7 +75,7 @@ checkLines c v w u area0 area1 =
     ++ areaLine 0 (length v + length u) area0 ∷ areaLine 1 (length u + length w) area1 ∷ []
 
 -- yes if the normal forms of v·u and u·w are the same, with their lengths
-abbrev pub checkAnswer : List ℕ → List ℕ → List ℕ → List ℕ → List ℕ → List ℕ → Answer Checked
+abbrev pub checkAnswer : List ℕ → List ℕ → List ℕ → List ℕ → List ℕ → List ℕ → Answer CheckedLeadIn
 checkAnswer c v w u area0 area1 =
     orElse (firstLine (checkLines c v w u area0 area1))
     (record {

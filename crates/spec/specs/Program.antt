@@ -23,11 +23,7 @@ abbrev pub programLines : List ℕ → List ℕ → List ℕ → List (Option Li
 programLines c v w =
     coreLines c v ++ planLines 2 planLimit (commands c) w ++ unsettledLine 1 c v ∷ unsettledLine 2 c w ∷ []
 
--- refused, or the number of letters in the core of v
-abbrev pub coreVerdict : List ℕ → List ℕ → Answer (Option ℕ)
-coreVerdict c v = orElse (firstLine (coreLines c v)) (some (length (coreForm c v)))
-
--- that number if the loops are joined, and nothing if they are apart
+-- the number of letters in the core if the loops are joined, and nothing if they are apart
 abbrev pub joined-step : Bool → ℕ → Option ℕ
 joined-step true n = some n
 joined-step false n = none

@@ -21,7 +21,7 @@ use Rattle.spec.specs.Step.{Equal}
 use Rattle.spec.specs.Demands.{Demand1, Demand2, Demand3, Shortest, Exact}
 use Rattle.spec.specs.Calls.{planLimit, areaLine, areaAfter, normalFormLines, normalFormAnswer, normalFormArea}
 use Rattle.spec.specs.Calls.{equalLines, equalAnswer}
-use Rattle.spec.specs.Answers.{Checked}
+use Rattle.spec.specs.Answers.{CheckedLeadIn}
 use Rattle.spec.specs.Loops.{Looped, apart, joined, LeadIn, checkLines, checkAnswer}
 use Rattle.spec_laws.specs.LoopLaws.{loops-pass, none-joins, none-some, check-pass}
 use Rattle.spec.specs.Join.{Joins}
@@ -125,7 +125,7 @@ lead-in-demand : {c v w area after : List ℕ} {l : ℕ} → Looped c v w area (
 lead-in-demand {area = area} (joined {u = u} e d l) =
     rw (take-append-seam u (drop (length u) area), drop-append-seam u (drop (length u) area)) (refl, l, refl)
 
-check-demand : (c v w u area0 area1 : List ℕ) (k : Checked) → checkAnswer c v w u area0 area1 ≡ given k
+check-demand : (c v w u area0 area1 : List ℕ) (k : CheckedLeadIn) → checkAnswer c v w u area0 area1 ≡ given k
     → (k .yes ≡ true) ↔ Joins c v w u
 check-demand c v w u area0 area1 k e = (
   λ t. joins .1 (equal .1 (alike-exact vu uw .0 (ap (λ x. x .yes) (told .1) ∙ t))),
@@ -138,7 +138,7 @@ check-demand c v w u area0 area1 k e = (
     uw : List ℕ
     uw = normalForm c (u ++ w)
 
-    result : Checked
+    result : CheckedLeadIn
     result = record { yes = alike? vu uw; vu = length vu; uw = length uw }
 
     told : (firstLine (checkLines c v w u area0 area1) ≡ none) × (result ≡ k)
