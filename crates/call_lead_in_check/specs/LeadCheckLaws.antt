@@ -16,13 +16,13 @@ use Rattle.call_lead_in_check.specs.declared.Both.{Both}
 use Rattle.call_lead_in_check.specs.Checking.{Checkable, CheckedIn}
 use Rattle.input_checks.specs.Entry.{ThreePlans, threeLines, SameRefusal}
 use Rattle.input_checks.specs.EntryLaws.{entered-none, entered-some}
-use Rattle.spec.specs.Answers as Answers
+use Rattle.spec.specs.Answers.{CheckedLeadIn}
 use Rattle.spec.specs.Calls.{areaLine}
 use Rattle.spec_laws.specs.CallLaws.{exact-alike}
 use Rattle.spec.specs.Loops.{checkLines, checkAnswer, checkArea0, checkArea1}
 
 -- the answer t and both areas afterwards
-abbrev pub CheckOutcome : List ℕ → List ℕ → List ℕ → List ℕ → List ℕ → List ℕ → Answer Answers.Checked
+abbrev pub CheckOutcome : List ℕ → List ℕ → List ℕ → List ℕ → List ℕ → List ℕ → Answer CheckedLeadIn
     → List ℕ → List ℕ → Type 0
 CheckOutcome c v w u area0 area1 t after0 after1 =
     (t ≡ checkAnswer c v w u area0 area1)
@@ -34,11 +34,11 @@ module _ {c v w : List ℕ} (u : List ℕ) {rows : List (List ℕ)} {r : Checked
   abbrev last : List (Option Line)
   last = areaLine 0 (length v + length u) area0 ∷ areaLine 1 (length u + length w) area1 ∷ []
 
-  refused-by : {t : Answer Answers.Checked} {l : Line} → firstLine (checkLines c v w u area0 area1) ≡ some l
+  refused-by : {t : Answer CheckedLeadIn} {l : Line} → firstLine (checkLines c v w u area0 area1) ≡ some l
       → t ≡ refused l → CheckOutcome c v w u area0 area1 t area0 area1
   refused-by e k = rw e (k, refl, refl)
 
-  pub check-refused : {t : Answer Answers.Checked} {f : Refusal} → r ≡ Refused f → SameRefusal r t
+  pub check-refused : {t : Answer CheckedLeadIn} {f : Refusal} → r ≡ Refused f → SameRefusal r t
       → CheckOutcome c v w u area0 area1 t area0 area1
   check-refused {t} {f} e s = refused-by (first-early (threeLines c v w u) last (entered-some d e)) (s f e)
 
@@ -75,7 +75,7 @@ module _ {c v w : List ℕ} (u : List ℕ) {rows : List (List ℕ)} {r : Checked
               fits1 = i;
             }
 
-        pub check-told : {b : Both} {after0 after1 : List ℕ} {t : Answer Answers.Checked}
+        pub check-told : {b : Both} {after0 after1 : List ℕ} {t : Answer CheckedLeadIn}
             → CheckedIn c v w u area0 after0 area1 after1 b
             → t ≡ given (record { yes = b .same; vu = b .vu; uw = b .uw })
             → CheckOutcome c v w u area0 area1 t after0 after1

@@ -1,19 +1,17 @@
 // The call that checks a lead-in: it writes the normal forms of v·u and u·w and tells whether they are the same. The
 // crate spec defines what it answers (specs/Loops.antt).
 
-ghost use Prim.Native.Nat.{ℕ, _+_, _≤_};
+ghost use Prim.Native.Nat.{ℕ, _+_};
 ghost use mathlib.Core.List.{List};
 ghost use mathlib.Core.Path.{_≡_};
-ghost use lib.ListN.{length};
 ghost use Rattle.spec.specs.Table.{given};
 ghost use Rattle.spec.specs.Answers.{toldLeadIn};
 ghost use Rattle.spec.specs.Loops.{checkAnswer, checkArea0, checkArea1};
 ghost use Rattle.input_checks.specs.Entry.{SameRefusal};
-ghost use Rattle.call_lead_in_check.specs.Checking.{Concatenated, Factors, Multiplied, Checkable, CheckedIn};
-use array_row::append;
+ghost use Rattle.call_lead_in_check.specs.Checking.{Checkable, CheckedIn};
 use array_row::same_bytes;
 use input_catalogue::Checked;
-use long_form::form;
+use long_product::product;
 use spec::LeadIn;
 use spec::Lengths;
 
@@ -22,47 +20,6 @@ struct Both {
     pub same: bool,
     pub vu: usize,
     pub uw: usize,
-}
-
-// Puts both words at the start of the row, one behind the other, and gives their end.
-fn concatenate(first: &[u8], second: &[u8], row: &mut [u8]) -> usize
-    requires { ⌜ length (now first) + length (now second) ≤ length (now row) ⌝ }
-    ensures { λ r. ⌜ Concatenated (now (first .entry)) (now (second .entry)) (now (row .exit)) r ⌝ }
-{
-    let middle = append(row, 0, first);
-    append(row, middle, second)
-}
-
-// Writes the normal form of first · second into the area and gives its length. The row is worked in; what it holds
-// before does not matter.
-fn product_in(
-    first: &[u8],
-    second: &[u8],
-    conflicts: &[[u16; 24]; 24],
-    row: &mut [u8],
-    area: &mut [u8],
-) -> usize
-    requires { ⌜ ((c : List ℕ) × Factors c (now conflicts) (now first) (now second) (now area)
-        × (length (now first) + length (now second) ≤ length (now row))) ⌝ }
-    ensures { λ r. ⌜ Multiplied (now (conflicts .entry)) (now (first .entry)) (now (second .entry))
-        (now (area .entry)) (now (area .exit)) r ⌝ }
-{
-    let end = concatenate(first, second, row);
-    form(&row[..end], conflicts, area)
-}
-
-// As `product_in`, with a row of its own: a short one where it suffices, so that a short product clears little.
-fn product(first: &[u8], second: &[u8], conflicts: &[[u16; 24]; 24], area: &mut [u8]) -> usize
-    requires { ⌜ ((c : List ℕ) × Factors c (now conflicts) (now first) (now second) (now area)) ⌝ }
-    ensures { λ r. ⌜ Multiplied (now (conflicts .entry)) (now (first .entry)) (now (second .entry))
-        (now (area .entry)) (now (area .exit)) r ⌝ }
-{
-    if first.len() + second.len() <= 2048 {
-        let mut row = array_row::short_row();
-        return product_in(first, second, conflicts, &mut row, area);
-    }
-    let mut row = array_row::blank_row();
-    product_in(first, second, conflicts, &mut row, area)
 }
 
 // The lead-in check: the normal form of v·u is written at the start of area0, that of u·w at the start of area1.

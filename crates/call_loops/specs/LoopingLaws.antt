@@ -13,8 +13,8 @@ use Rattle.spec.specs.declared.Refusal.{Refusal}
 use Rattle.input_catalogue.specs.declared.Checked.{Checked}
 use Rattle.input_catalogue.specs.declared.Checked.the-variants.{Refused, Passed}
 use Rattle.conjugacy_of_parts.specs.declared.Outcome.{Outcome}
-use Rattle.conjugacy_of_plans.specs.Join as Join
-use Rattle.conjugacy_of_plans.specs.Join.{Plans, PlansOutcome}
+use Rattle.conjugacy_by_cores.specs.Join as Join
+use Rattle.conjugacy_by_cores.specs.Join.{Plans, PlansOutcome}
 use Rattle.spec_laws.specs.UnsettledLaws.{never-unsettled}
 use Rattle.input_checks.specs.Entry.{TwoPlans, twoLines, SameRefusal}
 use Rattle.input_checks.specs.EntryLaws.{entered-none, entered-some, entered-commands}

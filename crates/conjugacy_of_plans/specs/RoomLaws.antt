@@ -5,8 +5,8 @@ use native.Mathlib.Nat.{mul-le-mul-right}
 use mathlib.Core.List.{List}
 use lib.ListN.{length}
 use Rattle.spec_laws.specs.LettersLaws.{letters-length}
-use Rattle.conjugacy_of_plans.specs.CoreAndLeadLaws.{off-length}
-use Rattle.conjugacy_of_plans.specs.Join.{Cores, wordRoom}
+use Rattle.conjugacy_by_cores.specs.CoreAndLeadLaws.{off-length}
+use Rattle.conjugacy_by_cores.specs.Join.{Cores, wordRoom}
 
 module _ {c : List ℕ} {conflicts : List (List ℕ)} {v w x g y h : List ℕ} {n : ℕ}
     (k : Cores c conflicts v w x g y h n) where

@@ -1,72 +1,17 @@
-// Whether two plans that have passed their checks are joined, and the lead-in from one to the other: the letters taken
-// off in front of the first core, the lead-in from core to core, and the letters taken off in front of the second core,
-// undone. It is put together in a row and written, in normal form, at the start of the area.
+// Whether two plans that have passed their checks are joined, and the lead-in from one to the other, in normal form at
+// the start of the area: their cores are found, and a row is chosen in which the lead-in is put together.
 
-use array_row::append;
-use array_row::append_undone;
 use array_row::sheet;
-use conjugacy_of_cores::join_cores;
 use conjugacy_of_parts::Outcome;
-use long_form::form;
 use piling_form::form_of;
 ghost use Prim.Native.Nat.{ℕ, _≤_, _+_, _*_};
 ghost use mathlib.Core.List.{List};
 ghost use lib.ListN.{length};
-ghost use Rattle.conjugacy_of_plans.specs.Join.{Plans, Cores, wordRoom, WordOutcome};
-ghost use Rattle.conjugacy_of_plans.specs.Join.{FormRoom, FormOutcome, PlansOutcome};
+ghost use Rattle.conjugacy_by_cores.specs.Join.{Plans, FormRoom, FormOutcome, PlansOutcome};
+use conjugacy_by_cores::lead_in_form;
 
-// Whether the plans with these cores are joined, and the lead-in as a word at the start of the row, not yet in normal
-// form.
-fn lead_in_word(
-    core1: &[u8],
-    lead1: &[u8],
-    core2: &[u8],
-    lead2: &[u8],
-    commands: usize,
-    conflicts: &[[u16; 24]; 24],
-    row: &mut [u8],
-) -> Outcome
-    requires { ⌜ ((c : List ℕ) × (v : List ℕ) × (w : List ℕ)
-        × Cores c (now conflicts) v w (now core1) (now lead1) (now core2) (now lead2) commands
-        × (wordRoom commands (now core1) (now lead1) (now core2) (now lead2) ≤ length (now row))) ⌝ }
-    ensures { λ r. ⌜ ((c v w : List ℕ)
-        → Cores c (now (conflicts .entry)) v w (now (core1 .entry)) (now (lead1 .entry)) (now (core2 .entry))
-        (now (lead2 .entry)) commands
-        → WordOutcome c v w (now (row .exit)) r) ⌝ }
-{
-    let at = append(row, 0, lead1);
-    let way = join_cores(core1, core2, commands, conflicts, row, at);
-    let Outcome::Joined(end) = way else {
-        return way;
-    };
-    Outcome::Joined(append_undone(row, end, lead2))
-}
-
-// As `lead_in_word`, with the lead-in in normal form at the start of the area. The row is worked in.
-fn lead_in_form(
-    core1: &[u8],
-    lead1: &[u8],
-    core2: &[u8],
-    lead2: &[u8],
-    commands: usize,
-    conflicts: &[[u16; 24]; 24],
-    row: &mut [u8],
-    area: &mut [u8],
-) -> Outcome
-    requires { ⌜ FormRoom (now conflicts) (now core1) (now lead1) (now core2) (now lead2) commands
-        (length (now row)) (now area) ⌝ }
-    ensures { λ r. ⌜ FormOutcome (now (conflicts .entry)) (now (core1 .entry)) (now (lead1 .entry))
-        (now (core2 .entry)) (now (lead2 .entry)) commands (now (area .entry)) r (now (area .exit)) ⌝ }
-{
-    let way = lead_in_word(core1, lead1, core2, lead2, commands, conflicts, row);
-    let Outcome::Joined(end) = way else {
-        return way;
-    };
-    Outcome::Joined(form(&row[..end], conflicts, area))
-}
-
-// As `lead_in_form`, for n commands, with a row of its own: the shortest that suffices, so that short
-// cores clear little.
+// As `lead_in_form`, for n commands, with a row of its own: the shortest that suffices, so that short cores clear
+// little.
 fn join_by_cores(
     core1: &[u8],
     lead1: &[u8],

@@ -5,7 +5,7 @@ use mathlib.Core.Path.{_≡_}
 use mathlib.Core.List.{List, [], _∷_}
 use lib.ListN.{length, getD}
 use lib.Dec.{eqb}
-use Rattle.input_conflicts.specs.Conflicts.{bit}
+use Rattle.input_chains.specs.Conflicts.{bit}
 use Rattle.spec.specs.Conflict.{conflict}
 use Rattle.theory_words.specs.Filter.{keepIf}
 use Rattle.theory_conjugacy.specs.Part.{relabel-step}

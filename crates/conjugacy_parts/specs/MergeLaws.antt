@@ -11,7 +11,7 @@ use borrow.Author.Tests.{eqb-true, eq-eqb, ne-eqb}
 use lib.Dec.{eqb}
 use lib.ListN.{length, getD, set, drop, length-set, drop-of-length-le}
 use lib.Seq.{getD-set-same, getD-set-other, drop-cons}
-use Rattle.input_conflicts.specs.Conflicts.{bit}
+use Rattle.input_chains.specs.Conflicts.{bit}
 use Rattle.spec.specs.Conflict.{conflict}
 use Rattle.spec.specs.Letters.{alphabet}
 use Rattle.theory_words.specs.Filter.{keepIf}

@@ -5,7 +5,7 @@ use mathlib.Core.Logic.{_⊎_}
 use mathlib.Core.List.{List, []}
 use lib.ListN.{length, getD, set}
 use Rattle.theory_words.specs.All.{All}
-use Rattle.input_conflicts.specs.Conflicts.{Conflicts}
+use Rattle.input_chains.specs.Conflicts.{Conflicts}
 use Rattle.spec.specs.Byte.{commandOf}
 use Rattle.input_plan.specs.Lettered.{Lettered}
 use Rattle.spec.specs.Letters.{alphabet}

@@ -9,7 +9,7 @@ use lib.ListN.{getD}
 use Rattle.theory_words.specs.All.{All, all-map}
 use Rattle.theory_words.specs.Normal.{meets}
 use Rattle.spec.specs.Conflict.{conflict}
-use Rattle.input_conflicts.specs.Conflicts.{bit, Conflicts}
+use Rattle.input_chains.specs.Conflicts.{bit, Conflicts}
 use Rattle.spec.specs.AlphabetLaws.{conflict-refl, conflict-sym}
 use Rattle.spec.specs.Letters.{alphabet}
 use Rattle.array_sets.specs.Sets.{In, Clear, Table, Added, empty}

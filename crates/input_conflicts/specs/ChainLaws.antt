@@ -9,12 +9,12 @@ use mathlib.Core.List.{List, []}
 use lib.Dec.{eqb, ltb, eqb·suc-suc}
 use borrow.Author.Tests.{ne-eqb, lt-ltb, le-ltb, lt-leb}
 use Rattle.spec.specs.Catalogue.{commands, records, head, ends, follow, chain, stands}
-use Rattle.input_conflicts.specs.Conflicts.{bit, Conflicts}
+use Rattle.input_chains.specs.Conflicts.{bit, Conflicts}
 use Rattle.spec.specs.Conflict.{conflict}
-use Rattle.input_conflicts.specs.Marking.{cell, Shape, pairs}
+use Rattle.input_chains.specs.Marking.{cell, Shape, pairs}
 use Rattle.input_conflicts.specs.MarkedRows.{Blank, diagonal, Met}
 use Rattle.input_conflicts.specs.Known.{met, Chained}
-use Rattle.input_conflicts.specs.MarkingLaws.{Fit, over-bit, pairs-shape, pairs-cell}
+use Rattle.input_chains.specs.MarkingLaws.{Fit, over-bit, pairs-shape, pairs-cell}
 use Rattle.input_conflicts.specs.MarkedRowsLaws.{ltb-more, diagonal-shape, diagonal-cell}
 use Rattle.input_catalogue.specs.Sound.{Sound}
 

@@ -7,8 +7,8 @@ use mathlib.Core.List.{List}
 use lib.ListN.{length, getD}
 use lib.Dec.{ltb}
 use Rattle.spec.specs.Catalogue.{records, head, ends, chain, stands}
-use Rattle.input_conflicts.specs.Conflicts.{bit}
-use Rattle.input_conflicts.specs.Marking.{cell, Shape}
+use Rattle.input_chains.specs.Conflicts.{bit}
+use Rattle.input_chains.specs.Marking.{cell, Shape}
 
 -- command i + 1 or j + 1 is below a and has the other in its chain
 abbrev pub met : List ℕ → ℕ → ℕ → ℕ → Bool

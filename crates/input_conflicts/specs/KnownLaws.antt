@@ -11,14 +11,14 @@ use lib.Seq.{getD-set-same, getD-set-other}
 use lib.Dec.{eqb}
 use borrow.Author.Tests.{eq-eqb, ne-eqb}
 use Rattle.spec.specs.Catalogue.{commands, records, head, headPlace, ends, chain, stands}
-use Rattle.input_conflicts.specs.Conflicts.{bit}
+use Rattle.input_chains.specs.Conflicts.{bit}
 use Rattle.input_catalogue.specs.Sound.{Sound}
 use Rattle.input_catalogue.specs.SoundLaws.{head-at}
-use Rattle.input_conflicts.specs.Marking.{cell, pairs, notes, members}
+use Rattle.input_chains.specs.Marking.{cell, pairs, notes, members}
 use Rattle.input_conflicts.specs.MarkedRows.{Blank}
-use Rattle.input_conflicts.specs.MarkingLaws.{Fit, notes-shape, notes-cell}
-use Rattle.input_conflicts.specs.MembersLaws.{members-fit, members-stand}
-use Rattle.input_conflicts.specs.WalkLaws.{follow-fit}
+use Rattle.input_chains.specs.MarkingLaws.{Fit, notes-shape, notes-cell}
+use Rattle.input_chains.specs.MembersLaws.{members-fit, members-stand}
+use Rattle.input_chains.specs.WalkLaws.{follow-fit}
 use Rattle.input_conflicts.specs.Known.{NoneKnown, Chained, Walked, Known}
 use Rattle.input_conflicts.specs.ChainLaws.{chained-again}
 

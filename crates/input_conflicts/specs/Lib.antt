@@ -1,8 +1,3 @@
-pub mod Marking
-pub mod MarkingLaws
-pub mod MembersLaws
-pub mod WalkLaws
-pub mod Conflicts
 pub mod ChainLaws
 pub mod Known
 pub mod KnownLaws

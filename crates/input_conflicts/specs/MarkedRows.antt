@@ -4,8 +4,8 @@ use mathlib.Core.Path.{_≡_}
 use mathlib.Core.Bool.{_||_}
 use mathlib.Core.List.{List}
 use Rattle.spec.specs.Catalogue.{chain, stands}
-use Rattle.input_conflicts.specs.Conflicts.{bit}
-use Rattle.input_conflicts.specs.Marking.{cell, Shape, put}
+use Rattle.input_chains.specs.Conflicts.{bit}
+use Rattle.input_chains.specs.Marking.{cell, Shape, put}
 
 -- no mark is set
 pub record Blank (rows : List (List ℕ)) : Type 0 where

@@ -10,8 +10,8 @@ use lib.ListN.{replicate, getD-replicate}
 use lib.Dec.{eqb, ltb}
 use borrow.Author.Tests.{eq-eqb, ne-eqb, lt-ltb, le-ltb}
 use Rattle.spec.specs.AlphabetLaws.{eqb-sym}
-use Rattle.input_conflicts.specs.Marking.{cell, Shape, put}
-use Rattle.input_conflicts.specs.MarkingLaws.{over, put-shape, put-cell}
+use Rattle.input_chains.specs.Marking.{cell, Shape, put}
+use Rattle.input_chains.specs.MarkingLaws.{over, put-shape, put-cell}
 use Rattle.input_conflicts.specs.MarkedRows.{Blank, diagonal}
 
 abbrev zeros : List ℕ

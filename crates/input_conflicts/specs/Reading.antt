@@ -7,7 +7,7 @@ use Rattle.input_catalogue.specs.Checked.{toldChecked}
 use Rattle.spec.specs.Table.{firstLine, orElse}
 use Rattle.input_catalogue.specs.declared.Checked.{Checked}
 use Rattle.spec.specs.Catalogue.{commands, catalogueLines}
-use Rattle.input_conflicts.specs.Conflicts.{Conflicts}
+use Rattle.input_chains.specs.Conflicts.{Conflicts}
 
 -- c is the catalogue, rows are the lent rows as the call leaves them, r is its answer
 pub record Reading (c : List ℕ) (rows : List (List ℕ)) (r : Checked) : Type 0 where

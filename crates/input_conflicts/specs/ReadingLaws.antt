@@ -11,7 +11,7 @@ use Rattle.input_catalogue.specs.declared.Checked.{Checked}
 use Rattle.input_catalogue.specs.declared.Checked.the-variants.{Passed, Refused}
 use Rattle.spec.specs.Catalogue.{commands, orIf, sizeLine, countLine, headLine, nextLine, recordLine, endlessLine}
 use Rattle.spec.specs.Catalogue.{ownLine, catalogueLines}
-use Rattle.input_conflicts.specs.Conflicts.{Conflicts}
+use Rattle.input_chains.specs.Conflicts.{Conflicts}
 use Rattle.input_catalogue.specs.Sound.{frameLine, soundLine, Decides, Sound}
 use Rattle.input_catalogue.specs.SoundLaws.{framed-from, sound-from, some-none}
 use Rattle.input_conflicts.specs.Reading.{Reading}

@@ -4,7 +4,7 @@ use Prim.Native.Nat.{ℕ, _+_, _-_, _<_, _≤_}
 use mathlib.Core.Path.{_≡_}
 use mathlib.Core.List.{List, []}
 use lib.ListN.{length, getD, set}
-use Rattle.input_conflicts.specs.Conflicts.{Conflicts}
+use Rattle.input_chains.specs.Conflicts.{Conflicts}
 use Rattle.array_counts.specs.First.{FirstWith}
 use Rattle.array_row.specs.Area.{ReadOff}
 use Rattle.array_row.specs.ReadOffLaws.{Shows, Reading, reading-start, reading-end, reading-fits, reading-again}

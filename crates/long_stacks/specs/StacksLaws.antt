@@ -13,7 +13,7 @@ use Rattle.theory_words.specs.TraceLaws.{pick-length}
 use Rattle.theory_words.specs.Stack.{proj, mark}
 use Rattle.theory_words.specs.StackLaws.{proj-length, proj-pick, proj-first, proj-front}
 use Rattle.spec.specs.Conflict.{conflict}
-use Rattle.input_conflicts.specs.Conflicts.{bit}
+use Rattle.input_chains.specs.Conflicts.{bit}
 use Rattle.spec.specs.Byte.{commandOf}
 use Rattle.spec.specs.Letters.{alphabet}
 use Rattle.input_plan.specs.Lettered.{Lettered}

@@ -18,7 +18,7 @@ use Rattle.theory_words.specs.StackLaws.{mark-own, mark-length, proj-append, pr
 use Rattle.theory_words.specs.StackLaws.{proj-front-rest, stack-top, stack-read}
 use Rattle.theory_conjugacy.specs.Turn.{Tight}
 use Rattle.theory_conjugacy.specs.CoreLaws.{Peels, off}
-use Rattle.input_conflicts.specs.Conflicts.{Conflicts}
+use Rattle.input_chains.specs.Conflicts.{Conflicts}
 use Rattle.spec.specs.Byte.{commandOf, undone}
 use Rattle.spec.specs.AlphabetLaws.{command-undone}
 use Rattle.spec.specs.Letters.{alphabet}

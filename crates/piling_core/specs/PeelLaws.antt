@@ -9,7 +9,7 @@ use Rattle.theory_words.specs.TraceLaws.{~-refl}
 use Rattle.theory_words.specs.WritingLaws.{take-more, drop-more}
 use Rattle.theory_conjugacy.specs.Core.{Cores, bare}
 use Rattle.theory_conjugacy.specs.CoreLaws.{peels-length, peels-cores}
-use Rattle.input_conflicts.specs.Conflicts.{Conflicts}
+use Rattle.input_chains.specs.Conflicts.{Conflicts}
 use Rattle.spec.specs.Letters.{alphabet}
 use Rattle.array_counts.specs.First.{FirstWith}
 use Rattle.piling_read.specs.Reading.{lowest, Room, Left}

@@ -16,7 +16,7 @@ use Rattle.theory_words.specs.NormalLaws.{lex-sorts, sorts-nf}
 use Rattle.theory_conjugacy.specs.Core as Core
 use Rattle.theory_conjugacy.specs.Core.{core}
 use Rattle.theory_conjugacy.specs.CoreLaws.{cores-core, cores-reduced}
-use Rattle.input_conflicts.specs.Conflicts.{Conflicts}
+use Rattle.input_chains.specs.Conflicts.{Conflicts}
 use Rattle.spec.specs.Letters.{alphabet}
 use Rattle.input_plan.specs.Lettered.{Lettered}
 use Rattle.array_counts.specs.Blank.{blankHeights}

@@ -8,7 +8,7 @@ use lib.Dec.{eqb}
 use Rattle.theory_words.specs.Group.{Reduced}
 use Rattle.theory_words.specs.Reduce.{act}
 use Rattle.spec.specs.Catalogue.{commands}
-use Rattle.input_conflicts.specs.Conflicts.{Conflicts}
+use Rattle.input_chains.specs.Conflicts.{Conflicts}
 use Rattle.spec.specs.Plan.{passes, Passing}
 use Rattle.spec.specs.Byte.{undone}
 use Rattle.spec.specs.Letters.{alphabet}

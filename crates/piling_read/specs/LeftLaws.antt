@@ -13,7 +13,7 @@ use Rattle.theory_words.specs.Trace.{Pick, First}
 use Rattle.theory_words.specs.Stack.{mark, mark-step, proj}
 use Rattle.theory_words.specs.StackLaws.{proj-pick, proj-first, proj-front}
 use Rattle.spec.specs.Conflict.{conflict}
-use Rattle.input_conflicts.specs.Conflicts.{bit, Conflicts}
+use Rattle.input_chains.specs.Conflicts.{bit, Conflicts}
 use Rattle.spec.specs.AlphabetLaws.{conflict-sym}
 use Rattle.spec.specs.Byte.{commandOf}
 use Rattle.spec.specs.Letters.{alphabet}

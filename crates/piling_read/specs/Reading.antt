@@ -7,7 +7,7 @@ use lib.ListN.{length, getD}
 use lib.Seq.{slice}
 use Rattle.theory_words.specs.All.{All}
 use Rattle.theory_words.specs.Stack.{proj}
-use Rattle.input_conflicts.specs.Conflicts.{Conflicts}
+use Rattle.input_chains.specs.Conflicts.{Conflicts}
 use Rattle.spec.specs.Letters.{alphabet}
 use Rattle.input_plan.specs.Lettered.{Lettered}
 use Rattle.piling_stacks.specs.Piling.{Shape}

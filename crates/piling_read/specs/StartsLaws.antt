@@ -8,7 +8,7 @@ use native.Mathlib.Decide.{decLt}
 use lib.Bits.{and-le-l, and-le-r}
 use lib.ListN.{length, getD}
 use Rattle.spec.specs.Conflict.{conflict}
-use Rattle.input_conflicts.specs.Conflicts.{bit, Conflicts}
+use Rattle.input_chains.specs.Conflicts.{bit, Conflicts}
 use Rattle.spec.specs.AlphabetLaws.{conflict-refl, conflict-sym}
 use Rattle.array_counts.specs.Blank.{blankHeights, Ones}
 use Rattle.array_counts.specs.BlankLaws.{blank-zero, blank-many}

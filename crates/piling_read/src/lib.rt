@@ -3,7 +3,7 @@
 
 ghost use Prim.Native.Nat.{ℕ};
 ghost use mathlib.Core.List.{List};
-ghost use Rattle.input_conflicts.specs.Conflicts.{Conflicts};
+ghost use Rattle.input_chains.specs.Conflicts.{Conflicts};
 ghost use Rattle.array_row.specs.Area.{ReadOff};
 ghost use Rattle.array_counts.specs.First.{NoneBelow, FirstWith};
 ghost use Rattle.piling_read.specs.Reading.{Room, Ready, Readable};

@@ -10,7 +10,7 @@ use Rattle.theory_words.specs.Stack.{mark}
 use Rattle.theory_words.specs.StackLaws.{Marked, marked}
 use Rattle.theory_words.specs.StackLaws as Stack
 use Rattle.spec.specs.Conflict.{conflict}
-use Rattle.input_conflicts.specs.Conflicts.{bit}
+use Rattle.input_chains.specs.Conflicts.{bit}
 use Rattle.spec.specs.AlphabetLaws.{conflict-refl, conflict-sym}
 use Rattle.spec.specs.Byte.{commandOf}
 use Rattle.spec.specs.Letters.{alphabet}

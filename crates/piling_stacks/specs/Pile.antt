@@ -4,7 +4,7 @@ use mathlib.Core.List.{List, [], reverse}
 use lib.ListN.{length}
 use Rattle.theory_words.specs.Reduce.{reduce}
 use Rattle.spec.specs.Catalogue.{commands}
-use Rattle.input_conflicts.specs.Conflicts.{Conflicts}
+use Rattle.input_chains.specs.Conflicts.{Conflicts}
 use Rattle.spec.specs.Plan.{Passing}
 use Rattle.spec.specs.Letters.{alphabet, letters}
 use Rattle.piling_stacks.specs.Piling.{Piled}

@@ -12,7 +12,7 @@ use Rattle.theory_words.specs.Filter.{filter}
 use Rattle.theory_words.specs.Reduce.{act, reduce}
 use Rattle.theory_words.specs.ReduceLaws.{reduce-length}
 use Rattle.spec.specs.Catalogue.{commands}
-use Rattle.input_conflicts.specs.Conflicts.{Conflicts}
+use Rattle.input_chains.specs.Conflicts.{Conflicts}
 use Rattle.spec.specs.Plan.{passes}
 use Rattle.spec.specs.Byte.{commandOf}
 use Rattle.spec.specs.Letters.{alphabet, letters}

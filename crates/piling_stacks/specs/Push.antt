@@ -7,7 +7,7 @@ use lib.ListN.{length, getD}
 use Rattle.theory_words.specs.Trace.{First}
 use Rattle.theory_words.specs.Reduce.{act}
 use Rattle.spec.specs.Conflict.{conflict}
-use Rattle.input_conflicts.specs.Conflicts.{bit}
+use Rattle.input_chains.specs.Conflicts.{bit}
 use Rattle.spec.specs.Byte.{commandOf, undone}
 use Rattle.spec.specs.Letters.{alphabet}
 use Rattle.piling_stacks.specs.Piling.{Piled}

@@ -4,7 +4,7 @@ use mathlib.Core.Path.{sym, subst}
 use mathlib.Core.List.{List}
 use native.Mathlib.Omega.{arith}
 use Rattle.spec.specs.Loops.{Looped}
-use Rattle.conjugacy_of_plans.specs.Join.{Plans}
+use Rattle.conjugacy_by_cores.specs.Join.{Plans}
 use Rattle.call_loops.specs.LoopingLaws.{loops-refused, loops-plans, loops-fits, loops-small, loops-told}
 use borrow.Author.Needs.{needs}
 use Rattle.call_loops.proofs.loops.Statement.{statement}

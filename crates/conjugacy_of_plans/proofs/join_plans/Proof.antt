@@ -7,7 +7,7 @@ use borrow.Author.Needs.{needs}
 use Rattle.array_row.specs.AreaLaws.{starts-fits, starts-count}
 use Rattle.piling_form.specs.Coring.{CoreOf}
 use Rattle.piling_form.specs.CoringLaws.{core-of}
-use Rattle.conjugacy_of_plans.specs.Join.{Plans, Cores}
+use Rattle.conjugacy_by_cores.specs.Join.{Plans, Cores}
 use Rattle.conjugacy_of_plans.specs.RoomLaws.{cores-room}
 use Rattle.conjugacy_of_plans.specs.CoresLaws.{core-and-lead, lead-count, lead-fits}
 use Rattle.conjugacy_of_plans.proofs.join_plans.Statement.{statement}

@@ -10,6 +10,12 @@ use Rattle.input_catalogue.proofs.check.Tie as tie
 
 -- places on the way
 
+abbrev start-from-enum-told3 : tie.After-enum-told3 → tie.Start
+start-from-enum-told3 c = c .before .before .before .before .before .before .before
+
+abbrev start-from-enum-told5 : tie.After-enum-told5 → tie.Start
+start-from-enum-told5 c = c .before .before .before .before .before .before .before .before .before .before
+
 abbrev after-enum-told : tie.After-enum-told5 → tie.After-enum-told
 after-enum-told c = c .before .before .before .before .before .before
 
@@ -19,18 +25,16 @@ frame-none c =
     let cat = c .before .before .before .before .args .c .now in
     passed-none cat (frameLine cat) (r .result) (r .ensures) (c .enum-told .given .1)
 
-head-none : (c : tie.After-enum-told3)
-    → headLine (c .before .before .before .before .before .before .before .args .c .now) ≡ none
+head-none : (c : tie.After-enum-told3) → headLine (start-from-enum-told3 c .args .c .now) ≡ none
 head-none c =
     let r = c .before .before .heads in
-    let cat = c .before .before .before .before .before .before .before .args .c .now in
+    let cat = start-from-enum-told3 c .args .c .now in
     passed-none cat (headLine cat) (r .result) (r .ensures) (c .enum-told3 .given .1)
 
-next-none : (c : tie.After-enum-told5)
-    → nextLine (c .before .before .before .before .before .before .before .before .before .before .args .c .now) ≡ none
+next-none : (c : tie.After-enum-told5) → nextLine (start-from-enum-told5 c .args .c .now) ≡ none
 next-none c =
     let r = c .before .before .nexts in
-    let cat = c .before .before .before .before .before .before .before .before .before .before .args .c .now in
+    let cat = start-from-enum-told5 c .args .c .now in
     passed-none cat (nextLine cat) (r .result) (r .ensures) (c .enum-told5 .given .1)
 
 returns : tie.Need-returns

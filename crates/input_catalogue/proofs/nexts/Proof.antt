@@ -21,8 +21,8 @@ abbrev μ-loop : tie.MeasureT-loop
 abbrev at-loop : tie.After-refused Inv-loop μ-loop → tie.At-loop Inv-loop μ-loop
 at-loop c = c .before .before .before .before .before
 
-abbrev start-from-loop : tie.After-loop Inv-loop μ-loop → tie.Start Inv-loop μ-loop
-start-from-loop c = c .before .before .before .before .before
+abbrev start-from-after-loop : tie.After-loop Inv-loop μ-loop → tie.Start Inv-loop μ-loop
+start-from-after-loop c = c .before .before .before .before .before
 
 abbrev start-from-else1 : tie.Else1 Inv-loop μ-loop → tie.Start Inv-loop μ-loop
 start-from-else1 c = c .before .before .before .before .before .before .before .before
@@ -51,7 +51,7 @@ loop-again c =
 
 returns-2 : tie.Need-returns-2 Inv-loop μ-loop
 returns-2 c =
-    let cat = start-from-loop c .args .c .now in
+    let cat = start-from-after-loop c .args .c .now in
     passes cat (ap (lineAt 3 0 (nextPlace cat)) (search-end (highNext cat) (c .before .loop .inv) (omega arith)))
 
 pub nexts-spec : {M : Type 1} → statement M

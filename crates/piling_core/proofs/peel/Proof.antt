@@ -28,20 +28,20 @@ in-loop-from-pair2 c = c .before .before .before .before .before .before .before
 abbrev start-from-loop : tie.At-loop Inv-loop μ-loop → tie.Start Inv-loop μ-loop
 start-from-loop c = c .before .before .before .before .before
 
-abbrev start-from-loop-2 : tie.In-loop Inv-loop μ-loop → tie.Start Inv-loop μ-loop
-start-from-loop-2 c = c .before .before .before .before .before .before
+abbrev start-from-in-loop : tie.In-loop Inv-loop μ-loop → tie.Start Inv-loop μ-loop
+start-from-in-loop c = c .before .before .before .before .before .before
 
-abbrev start-from-loop-3 : tie.After-loop Inv-loop μ-loop → tie.Start Inv-loop μ-loop
-start-from-loop-3 c = c .before .before .before .before .before .before
+abbrev start-from-after-loop : tie.After-loop Inv-loop μ-loop → tie.Start Inv-loop μ-loop
+start-from-after-loop c = c .before .before .before .before .before .before
 
 -- the bead that is read, and the place that is written, are there
 index : (c : tie.In-loop Inv-loop μ-loop) → getD (c .before .loop .at) (c .before .loop .k) 0 < 1024
 index c =
-    taken-index (c .before .loop .inv) (c .loop-test .taken) (c .before .before .before .before .before .before .pre)
+    taken-index (c .before .loop .inv) (c .loop-test .taken) (start-from-in-loop c .pre)
 
 fits : (c : tie.In-loop Inv-loop μ-loop) → c .before .loop .l < length (c .before .loop .lead)
 fits c =
-    taken-fits (c .before .loop .inv) (c .loop-test .taken) (c .before .before .before .before .before .before .pre)
+    taken-fits (c .before .loop .inv) (c .loop-test .taken) (start-from-in-loop c .pre)
 
 pair-requires : tie.Need-pair-requires Inv-loop μ-loop
 pair-requires c κs = c .before .before .before .pre .2 .left .room
@@ -67,12 +67,12 @@ add-l c =
 narrow-requires : tie.Need-narrow-requires Inv-loop μ-loop
 narrow-requires c κs =
     let i = in-loop-from-narrow-arg3 c in
-    taken-movable (i .before .loop .inv) (i .loop-test .taken) (start-from-loop-2 i .pre)
+    taken-movable (i .before .loop .inv) (i .loop-test .taken) (start-from-in-loop i .pre)
 
 pair-requires-2 : tie.Need-pair-requires-2 Inv-loop μ-loop
 pair-requires-2 c κs =
     let i = in-loop-from-pair-arg4 c in
-    taken-room (i .before .loop .inv) (i .loop-test .taken) (start-from-loop-2 i .pre)
+    taken-room (i .before .loop .inv) (i .loop-test .taken) (start-from-in-loop i .pre)
     (c .before .before .narrow .ensures)
 
 loop-less : tie.Need-loop-less Inv-loop μ-loop
@@ -86,7 +86,7 @@ loop-again c =
     (c .before .before .before .narrow .ensures) (c .pair2 .ensures)
 
 same-length : tie.Need-same-length Inv-loop μ-loop
-same-length c = taken-long (c .before .loop .inv) (start-from-loop-3 c .pre)
+same-length c = taken-long (c .before .loop .inv) (start-from-after-loop c .pre)
 
 returns : tie.Need-returns Inv-loop μ-loop
 returns c = taken-end (c .before .loop .inv) (c .loop-test .left)

@@ -25,20 +25,20 @@ in-loop-from-next c = c .before .before .before .before .before .before .before
 abbrev start-from-loop : tie.At-loop Inv-loop μ-loop → tie.Start Inv-loop μ-loop
 start-from-loop c = c .before .before .before .before .before
 
-abbrev start-from-loop-2 : tie.In-loop Inv-loop μ-loop → tie.Start Inv-loop μ-loop
-start-from-loop-2 c = c .before .before .before .before .before .before
+abbrev start-from-in-loop : tie.In-loop Inv-loop μ-loop → tie.Start Inv-loop μ-loop
+start-from-in-loop c = c .before .before .before .before .before .before
 
-abbrev start-from-loop-3 : tie.After-loop Inv-loop μ-loop → tie.Start Inv-loop μ-loop
-start-from-loop-3 c = c .before .before .before .before .before .before
+abbrev start-from-after-loop : tie.After-loop Inv-loop μ-loop → tie.Start Inv-loop μ-loop
+start-from-after-loop c = c .before .before .before .before .before .before
 
 index : (c : tie.In-loop Inv-loop μ-loop) → getD (c .before .loop .at) (c .before .loop .k) 0 < 1024
 index c =
-    let s = c .before .before .before .before .before .before in
+    let s = start-from-in-loop c in
     written-index (c .before .loop .inv) (c .loop-test .taken) (s .pre)
 
 fits : (c : tie.In-loop Inv-loop μ-loop) → c .before .loop .l < length (c .before .loop .area)
 fits c =
-    let s = c .before .before .before .before .before .before in
+    let s = start-from-in-loop c in
     written-fits (c .before .loop .inv) (c .loop-test .taken) (s .pre)
 
 starts-requires : tie.Need-starts-requires Inv-loop μ-loop
@@ -68,7 +68,7 @@ add-l c =
 lift-requires : tie.Need-lift-requires Inv-loop μ-loop
 lift-requires c κs =
     let i = c .before .before .before .before in
-    written-lift (i .before .loop .inv) (i .loop-test .taken) (start-from-loop-2 i .pre)
+    written-lift (i .before .loop .inv) (i .loop-test .taken) (start-from-in-loop i .pre)
 
 cast-next : tie.Need-cast-next Inv-loop μ-loop
 cast-next c =
@@ -79,7 +79,7 @@ cast-next c =
 next-requires : tie.Need-next-requires Inv-loop μ-loop
 next-requires c κs =
     let i = in-loop-from-next-arg c in
-    let p = start-from-loop-2 i .pre in
+    let p = start-from-in-loop i .pre in
     let s = i .before .before .before .before .starts .ensures in (
       written-room (i .before .loop .inv) (i .loop-test .taken) p (c .before .lift .ensures),
       written-passed (i .before .loop .inv) (i .loop-test .taken) p s (c .before .lift .ensures),
@@ -96,7 +96,7 @@ loop-again c =
     written-again (i .before .loop .inv) (i .loop-test .taken) (c .before .before .lift .ensures) (c .next .ensures)
 
 same-length : tie.Need-same-length Inv-loop μ-loop
-same-length c = written-long (c .before .loop .inv) (start-from-loop-3 c .pre)
+same-length c = written-long (c .before .loop .inv) (start-from-after-loop c .pre)
 
 returns : tie.Need-returns Inv-loop μ-loop
 returns c = written-end (c .before .loop .inv) (c .loop-test .left)

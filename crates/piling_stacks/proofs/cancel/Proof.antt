@@ -17,6 +17,9 @@ use Rattle.piling_stacks.proofs.cancel.Tie as tie
 
 -- places on the way
 
+abbrev start-from-then2 : tie.Then2 → tie.Start
+start-from-then2 c = c .before .before .before .before .before
+
 abbrev start-from-lower-arg : tie.After-lower-arg → tie.Start
 start-from-lower-arg c = c .before .before .before .before .before .before
 
@@ -26,7 +29,7 @@ start-from-lower c = c .before .before .before .before .before .before .before
 high : (s : tie.Start) → getD (s .args .heights .now) (s .args .k) 0 ≤ 1024
 high s = facing-high (s .pre .2) (s .args .k) (s .pre .2 .within)
 
-first-at : (c : tie.Then2) {k z : List _} → let a = c .before .before .before .before .before .args in
+first-at : (c : tie.Then2) {k z : List _} → let a = start-from-then2 c .args in
     Facing k (now (a .rows)) (now (a .heights)) (now (a .line)) (a .k) (a .letter) z
     → First (alphabet k) (undone (a .letter)) z
 first-at c r =

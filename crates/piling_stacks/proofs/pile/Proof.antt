@@ -26,10 +26,10 @@ loop-holds : tie.Need-loop-holds Inv-loop μ-loop
 loop-holds c = piling-start
 
 -- the command of a byte that is no filler
-range-at : (c : tie.Then1 Inv-loop μ-loop) → let s = c .before .before .before .before .before in
+range-at : (c : tie.Then1 Inv-loop μ-loop) → let s = start c in
     let b = commandOf (getD (s .args .plan .now) (c .before .before .before .loop .i) 0) in (1 ≤ b) × (b ≤ 24)
 range-at c =
-    let s = c .before .before .before .before .before in
+    let s = start c in
     given-range (s .pre .1) (c .before .before .before .loop .i) (omega arith) (c .if1 .taken)
 
 cast-k : tie.Need-cast-k Inv-loop μ-loop

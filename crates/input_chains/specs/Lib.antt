@@ -1,0 +1,5 @@
+pub mod Conflicts
+pub mod Marking
+pub mod MarkingLaws
+pub mod MembersLaws
+pub mod WalkLaws
