@@ -4,4 +4,5 @@ pub mod RowLaws
 pub mod UndoLaws
 pub mod Area
 pub mod AreaLaws
+pub mod WritingLaws
 pub mod ReadOffLaws

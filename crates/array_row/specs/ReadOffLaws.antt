@@ -3,15 +3,14 @@
 -- come first.
 use Prim.Native.Nat.{ℕ, _+_, _-_, _<_, _≤_}
 use mathlib.Core.Path.{_≡_, refl, sym, _∙_, ap}
-use mathlib.Core.List.{List, [], _++_, append-nil}
+use mathlib.Core.List.{List, [], _∷_, _++_}
 use native.Mathlib.Omega.{arith}
 use native.Mathlib.Decide.{decLt}
-use lib.ListN.{length, take, drop, set, length-set, take-append-drop}
+use lib.ListN.{length, take, drop, set, take-append-drop}
 use lib.Seq.{length-take-le}
 use Rattle.theory_words.specs.All.{All, all-pick}
 use Rattle.theory_words.specs.Normal.{lex}
 use Rattle.theory_words.specs.NormalLaws.{Least, lex-pick}
-use Rattle.theory_words.specs.WritingLaws.{take-more, drop-more}
 use Rattle.theory_words.specs.Trace.{Pick, First}
 use Rattle.theory_words.specs.TraceLaws.{first-none, pick-length}
 use Rattle.spec.specs.Byte.{commandOf}
@@ -19,6 +18,7 @@ use Rattle.spec.specs.Letters.{alphabet}
 use Rattle.input_plan.specs.Lettered.{Lettered}
 use Rattle.array_counts.specs.First.{FirstWith}
 use Rattle.array_row.specs.Area.{ReadOff}
+use Rattle.array_row.specs.WritingLaws.{Writing, writing-start, writing-end, writing-fits, writing-again}
 
 -- the row of each letter that can come first in y is ready, and a row that is ready shows such a letter
 pub record Shows (c : List ℕ) (Ready : ℕ → Type 0) (letter : ℕ → ℕ) (y : List ℕ) : Type 0 where
@@ -46,17 +46,18 @@ module _ {c : List ℕ} {Ready : ℕ → Type 0} {letter : ℕ → ℕ} {y : Lis
       let t : Lettered d = all-pick (alphabet c) Lettered (o .1) (s .letters) .0 in
       omega (arith, first-least d o, t .1))
 
+-- g are the letters of y in order, and nothing is left
+pub record InOrder (c y g z : List ℕ) : Type 0 where
+  pub letters : lex (alphabet c) (length y) y ≡ g
+  pub none : z ≡ []
+
 -- the first l letters of x, in order, are written, and the stacks hold the word y that is left
-pub record Reading (Holds : List ℕ → Type 0) (c x before area : List ℕ) (l : ℕ) (y : List ℕ) : Type 0 where
-  pub left : Holds y
-  pub long : length area ≡ length before
-  pub fits : l + length y ≤ length area
-  pub taken : lex (alphabet c) (length x) x ≡ take l area ++ lex (alphabet c) (length y) y
-  pub kept : drop l area ≡ drop l before
+abbrev pub Reading : (List ℕ → Type 0) → (c x before area : List ℕ) → ℕ → List ℕ → Type 0
+Reading Holds c = Writing Holds (InOrder c) 1
 
 pub reading-start : {Holds : List ℕ → Type 0} {c x area : List ℕ} → Holds x → length x ≤ length area
     → Reading Holds c x area area 0 x
-reading-start h l = record { left = h; long = refl; fits = omega arith; taken = refl; kept = refl }
+reading-start h l = writing-start h (omega arith)
 
 module _ {Holds : List ℕ → Type 0} {c x before area : List ℕ} {l : ℕ} {y : List ℕ}
     (g : Reading Holds c x before area l y) {Ready : ℕ → Type 0} {letter : ℕ → ℕ} (s : Shows c Ready letter y) {k : ℕ}
@@ -67,9 +68,9 @@ module _ {Holds : List ℕ → Type 0} {c x before area : List ℕ} {l : ℕ} {y
       let e : lex (alphabet c) (length y) y ≡ []
       = ap (λ (w : List ℕ). lex (alphabet c) (length w) w) (none-left s f h) in
       let t : lex (alphabet c) (length x) x ≡ take l area
-      = g .taken ∙ ap (λ (s : List ℕ). take l area ++ s) e ∙ append-nil (take l area) in
+      = writing-end g (record { letters = e; none = refl }) .letters in
       record {
-        ends = omega (arith, ap length t, length-take-le l area (omega (arith, g .fits)));
+        ends = omega (arith, ap length t, length-take-le l area (omega (arith, g .long, g .room, g .count)));
         bytes = sym (take-append-drop l area) ∙ ap (λ (s : List ℕ). s ++ drop l area) (sym t)
             ∙ ap (λ (s : List ℕ). lex (alphabet c) (length x) x ++ s) (g .kept);
       }
@@ -78,7 +79,7 @@ module _ {Holds : List ℕ → Type 0} {c x before area : List ℕ} {l : ℕ} {y
     pub reading-fits : l < length area
     reading-fits =
         let (m, (r, p)) = s .shown k h (f .found h) in
-        omega (arith, g .fits, pick-length (alphabet c) p)
+        writing-fits g (omega (arith, pick-length (alphabet c) p))
 
     -- the letter is written, and the stacks now hold what it leaves
     pub reading-again : (Holds′ : List ℕ → Type 0)
@@ -89,12 +90,9 @@ module _ {Holds : List ℕ → Type 0} {c x before area : List ℕ} {l : ℕ} {y
         let (m, (r, p)) = s .shown k h (f .found h) in
         let q : Least (alphabet c) b y = λ d o. omega (arith, m, first-least s f d o) in (
           r,
-          record {
-            left = off r m p;
-            long = length-set area l b ∙ g .long;
-            fits = omega (arith, g .fits, pick-length (alphabet c) p, length-set area l b);
-            taken = g .taken ∙ ap (λ (s : List ℕ). take l area ++ s) (lex-pick (alphabet c) p q)
-                ∙ take-more area (lex (alphabet c) (length r) r) l b reading-fits;
-            kept = drop-more area before l b (g .kept);
-          },
+          writing-again g b (off r m p) (omega (arith, pick-length (alphabet c) p)) reading-fits
+              (λ u z e. record {
+                letters = lex-pick (alphabet c) p q ∙ ap (λ (v : List ℕ). b ∷ v) (e .letters);
+                none = e .none;
+              }),
         )

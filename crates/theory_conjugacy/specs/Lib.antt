@@ -1,6 +1,6 @@
 -- Conjugacy of words over an alphabet with undos and conflicts (document 01 calls conjugate words joined loops, and the
--- conjugating word a lead-in). A definition file holds what a reader must believe; its laws stand in the file of the
--- same name with Laws.
+-- conjugating word a lead-in). A definition file is short and computes; its laws stand in the file of the same name
+-- with Laws.
 pub mod Turn
 pub mod WordLaws
 pub mod Settle

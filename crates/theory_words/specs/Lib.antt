@@ -1,5 +1,5 @@
 -- Words over an alphabet with undos and conflicts: swaps, the group, reduction, the normal form.
--- A definition file holds what a reader must believe; its laws stand in the file of the same name with Laws.
+-- A definition file is short and computes; its laws stand in the file of the same name with Laws.
 pub mod BoolLaws
 pub mod Alike
 pub mod AlikeLaws
@@ -18,4 +18,3 @@ pub mod ReduceLaws
 pub mod NormalLaws
 pub mod StackLaws
 pub mod LetterLaws
-pub mod WritingLaws
