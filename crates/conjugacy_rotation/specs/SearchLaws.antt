@@ -11,34 +11,30 @@ use lib.Dec.{ltb}
 use lib.ListN.{length, getD, take, drop, length-append, length-take, length-drop, List·getD-append}
 use lib.Seq.{getD-drop, getD-take, getD-append-add, ext-getD}
 use Rattle.spec.specs.Letters.{alphabet}
-use Rattle.theory_conjugacy.specs.Rotation.{rotation, Rotated}
+use Rattle.theory_conjugacy.specs.Rotation.{rotate, rotation, Rotated}
 use Rattle.theory_conjugacy.specs.RotationLaws.{rotation-some, rotation-none, rotate-rotated, rotated-length}
 use Rattle.conjugacy_rotation.specs.Stride.{Ahead, Stride}
 
--- r read round, from place i on; the alphabet makes no difference
-abbrev pub turned : ℕ → List ℕ → List ℕ
-turned i r = drop i r ++ take i r
-
 module _ (r : List ℕ) (i : ℕ) (l : i ≤ length r) where
-  turned-length : length (turned i r) ≡ length r
-  turned-length = omega (arith, length-append (drop i r) (take i r), length-drop i r, length-take i r)
+  rotate-length : length (rotate i r) ≡ length r
+  rotate-length = omega (arith, length-append (drop i r) (take i r), length-drop i r, length-take i r)
 
   -- before the end of the ring, and past it
-  turned-near : (k : ℕ) → i + k < length r → getD (turned i r) k 0 ≡ getD r (i + k) 0
-  turned-near k h =
+  rotate-near : (k : ℕ) → i + k < length r → getD (rotate i r) k 0 ≡ getD r (i + k) 0
+  rotate-near k h =
       List·getD-append (drop i r) (take i r) 0 k (omega (arith, length-drop i r)) ∙ getD-drop i r k 0
 
-  turned-far : (k : ℕ) → k < i → getD (turned i r) (length r - i + k) 0 ≡ getD r k 0
-  turned-far k h =
+  rotate-far : (k : ℕ) → k < i → getD (rotate i r) (length r - i + k) 0 ≡ getD r k 0
+  rotate-far k h =
       let e : length r - i ≡ length (drop i r) = sym (length-drop i r) in
-      ap (λ (j : ℕ). getD (turned i r) (j + k) 0) e
+      ap (λ (j : ℕ). getD (rotate i r) (j + k) 0) e
       ∙ getD-append-add (drop i r) (take i r) k 0
       ∙ getD-take i r k 0 h
 
 -- the answer
 
 module _ (c r t : List ℕ) where
-  pub rotation-at : (i : ℕ) → i < max 1 (length r) → turned i r ≡ t → ((k : ℕ) → k < i → turned k r ≡ t → ⊥)
+  pub rotation-at : (i : ℕ) → i < max 1 (length r) → rotate i r ≡ t → ((k : ℕ) → k < i → rotate k r ≡ t → ⊥)
       → some i ≡ rotation (alphabet c) r t
   rotation-at i l e f = go (rotation (alphabet c) r t) refl
     where
@@ -51,7 +47,7 @@ module _ (c r t : List ℕ) where
           let b : ¬ (i < k) = λ d. h i d e in
           ap some (omega arith)
 
-  pub rotation-nowhere : ((k : ℕ) → k < max 1 (length r) → turned k r ≡ t → ⊥) → none ≡ rotation (alphabet c) r t
+  pub rotation-nowhere : ((k : ℕ) → k < max 1 (length r) → rotate k r ≡ t → ⊥) → none ≡ rotation (alphabet c) r t
   rotation-nowhere f = go (rotation (alphabet c) r t) refl
     where
       go : (o : Option ℕ) → rotation (alphabet c) r t ≡ o → none ≡ o
@@ -68,25 +64,25 @@ pub record Passed (r t : List ℕ) (i : ℕ) : Type 0 where
   pub even : length t ≡ length r
   pub filled : 0 < length r
   pub within : i ≤ length r
-  pub apart : (k : ℕ) → k < i → turned k r ≡ t → ⊥
+  pub apart : (k : ℕ) → k < i → rotate k r ≡ t → ⊥
 
 -- and from place i on they agree in the first j letters
 pub record Agreed (r t : List ℕ) (i j : ℕ) : Type 0 where
   pub passed : Passed r t i
   pub inside : i < length r
   pub within : j ≤ length r
-  pub agree : (k : ℕ) → k < j → getD (turned i r) k 0 ≡ getD t k 0
+  pub agree : (k : ℕ) → k < j → getD (rotate i r) k 0 ≡ getD t k 0
 
-turned-fits : (r t : List ℕ) (i : ℕ) → i ≤ length r → length t ≡ length r
-    → ((k : ℕ) → k < length r → getD (turned i r) k 0 ≡ getD t k 0) → turned i r ≡ t
-turned-fits r t i l e f =
-    let n = turned-length r i l in
-    ext-getD 0 (turned i r) t (n ∙ sym e) (λ k h. f k (omega arith))
+rotate-fits : (r t : List ℕ) (i : ℕ) → i ≤ length r → length t ≡ length r
+    → ((k : ℕ) → k < length r → getD (rotate i r) k 0 ≡ getD t k 0) → rotate i r ≡ t
+rotate-fits r t i l e f =
+    let n = rotate-length r i l in
+    ext-getD 0 (rotate i r) t (n ∙ sym e) (λ k h. f k (omega arith))
 
 -- two empty rings
 pub empty-at : (c r t : List ℕ) → length t ≡ length r → length r ≡ 0 → some 0 ≡ rotation (alphabet c) r t
 empty-at c r t e z =
-    rotation-at c r t 0 (omega arith) (turned-fits r t 0 (omega arith) e (λ k l. absurd (omega arith)))
+    rotation-at c r t 0 (omega arith) (rotate-fits r t 0 (omega arith) e (λ k l. absurd (omega arith)))
     (λ k l. absurd (omega arith))
 
 module _ {r t : List ℕ} where
@@ -113,7 +109,7 @@ module _ {r t : List ℕ} where
   module _ {i j : ℕ} (a : Agreed r t i j) where
     -- n letters more, or the next place
     agreed-more : (n : ℕ) → j + n ≤ length r
-        → ((k : ℕ) → k < n → getD (turned i r) (j + k) 0 ≡ getD t (j + k) 0) → Agreed r t i (j + n)
+        → ((k : ℕ) → k < n → getD (rotate i r) (j + k) 0 ≡ getD t (j + k) 0) → Agreed r t i (j + n)
     agreed-more n l e = record {
       passed = a .passed;
       inside = a .inside;
@@ -121,14 +117,14 @@ module _ {r t : List ℕ} where
       agree = λ k h. go k h (ltb k j) refl;
     }
       where
-        go : (k : ℕ) → k < j + n → (b : Bool) → ltb k j ≡ b → getD (turned i r) k 0 ≡ getD t k 0
+        go : (k : ℕ) → k < j + n → (b : Bool) → ltb k j ≡ b → getD (rotate i r) k 0 ≡ getD t k 0
         go k h true o = a .agree k (ltb-true k j o)
         go k h false o =
             let m : j ≤ k = ltb-false k j o in
             let x : j + (k - j) ≡ k = omega arith in
             rw x at (e (k - j) (omega arith))
 
-    agreed-less : ¬ (turned i r ≡ t) → Passed r t (i + 1)
+    agreed-less : ¬ (rotate i r ≡ t) → Passed r t (i + 1)
     agreed-less n = record {
       even = a .passed .even;
       filled = a .passed .filled;
@@ -139,7 +135,7 @@ module _ {r t : List ℕ} where
     agreed-all : length r ≤ j → (c : List ℕ) → some i ≡ rotation (alphabet c) r t
     agreed-all l c =
         rotation-at c r t i (omega (arith, a .inside))
-        (turned-fits r t i (omega (arith, a .inside)) (a .passed .even) (λ k h. a .agree k (omega arith)))
+        (rotate-fits r t i (omega (arith, a .inside)) (a .passed .even) (λ k h. a .agree k (omega arith)))
         (a .passed .apart)
 
 -- the letters before the end of the ring: rest of them, of which j are compared
@@ -158,10 +154,10 @@ pub near-start : {r t : List ℕ} {i : ℕ} → Passed r t i → ¬ (i ≡ lengt
 near-start p n = record { whole = omega (arith, p .within); low = omega arith; agreed = agreed-start p n }
 
 module _ {r t : List ℕ} {rest i j : ℕ} (n : Near r t rest i j) where
-  near-at : (k : ℕ) → k < rest - j → getD (turned i r) (j + k) 0 ≡ getD r (i + j + k) 0
+  near-at : (k : ℕ) → k < rest - j → getD (rotate i r) (j + k) 0 ≡ getD r (i + j + k) 0
   near-at k l =
       let e : i + (j + k) ≡ i + j + k = omega arith in
-      turned-near r i (omega (arith, n .whole)) (j + k) (omega (arith, n .whole)) ∙ ap (λ m. getD r m 0) e
+      rotate-near r i (omega (arith, n .whole)) (j + k) (omega (arith, n .whole)) ∙ ap (λ m. getD r m 0) e
 
   pub near-ahead : j < rest → Ahead r (i + j) t j (rest - j)
   near-ahead l = record {
@@ -189,10 +185,10 @@ module _ {r t : List ℕ} {rest i j : ℕ} (n : Near r t rest i j) where
       record { whole = n .whole; low = omega arith; agreed = rw e at (n .agreed) }
 
 module _ {r t : List ℕ} {rest i k : ℕ} (f : Far r t rest i k) where
-  far-at : (j : ℕ) → j < i - k → getD (turned i r) (rest + k + j) 0 ≡ getD r (k + j) 0
+  far-at : (j : ℕ) → j < i - k → getD (rotate i r) (rest + k + j) 0 ≡ getD r (k + j) 0
   far-at j l =
       let e : rest + k + j ≡ length r - i + (k + j) = omega (arith, f .whole) in
-      ap (λ m. getD (turned i r) m 0) e ∙ turned-far r i (omega (arith, f .whole)) (k + j) (omega arith)
+      ap (λ m. getD (rotate i r) m 0) e ∙ rotate-far r i (omega (arith, f .whole)) (k + j) (omega arith)
 
   pub far-ahead : k < i → Ahead r k t (rest + k) (i - k)
   far-ahead l = record {

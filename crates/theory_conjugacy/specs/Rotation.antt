@@ -2,17 +2,17 @@
 use Prim.Native.Nat.{ℕ, zero, suc, max}
 use mathlib.Core.Path.{_≡_}
 use mathlib.Core.Bool.{Bool, true, false}
-use mathlib.Core.List.{[], _∷_, _++_}
+use mathlib.Core.List.{List, [], _∷_, _++_}
 use mathlib.Core.Option.{Option, none, some}
 use lib.ListN.{length, take, drop}
 use Rattle.theory_words.specs.Alphabet.{Alphabet, Word}
 
+-- r read round, from place i on
+abbrev pub rotate : {A : Type 0} → ℕ → List A → List A
+rotate i r = drop i r ++ take i r
+
 module _ (Γ : Alphabet) where
   open Alphabet Γ using (Letter, same)
-
-  -- r read round, from place i on
-  abbrev pub rotate : ℕ → Word Γ → Word Γ
-  rotate i r = drop i r ++ take i r
 
   unfoldable pub agree-step : {a b : Letter} → Dec (a ≡ b) → Bool → Bool
   agree-step (yes e) t = t

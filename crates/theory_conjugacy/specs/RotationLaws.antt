@@ -38,34 +38,34 @@ module _ (Γ : Alphabet) where
       subst (λ (x : Word Γ). Rotated Γ x (q ++ b ∷ p)) e (subst (Rotated Γ (p ++ (q ++ b ∷ []))) f h) in
       roll k
 
-  pub rotate-rotated : (i : ℕ) (r : Word Γ) → Rotated Γ r (rotate Γ i r)
+  pub rotate-rotated : (i : ℕ) (r : Word Γ) → Rotated Γ r (rotate i r)
   rotate-rotated i r =
-      subst (λ (x : Word Γ). Rotated Γ x (rotate Γ i r)) (take-append-drop i r) (rotated-halves (take i r) (drop i r))
+      subst (λ (x : Word Γ). Rotated Γ x (rotate i r)) (take-append-drop i r) (rotated-halves (take i r) (drop i r))
 
   -- a rotation by one letter more
-  rotate-roll : (i : ℕ) (b : Letter) (r : Word Γ) → i ≤ length r → rotate Γ i (r ++ b ∷ []) ≡ rotate Γ (suc i) (b ∷ r)
+  rotate-roll : (i : ℕ) (b : Letter) (r : Word Γ) → i ≤ length r → rotate i (r ++ b ∷ []) ≡ rotate (suc i) (b ∷ r)
   rotate-roll i b r h =
       let e : drop i (r ++ b ∷ []) ≡ drop i r ++ b ∷ [] = drop-append-le i r (b ∷ []) h in
       let f : take i (r ++ b ∷ []) ≡ take i r = take-append-le i r (b ∷ []) h in
       rw (e, f) (append-assoc (drop i r) (b ∷ []) (take i r))
 
-  rotate-all : (r : Word Γ) → rotate Γ (length r) r ≡ r
+  rotate-all : (r : Word Γ) → rotate (length r) r ≡ r
   rotate-all r = rw (take-length r, drop-length r)
 
   -- a rotation has its starting place
-  pub rotated-place : {r t : Word Γ} → Rotated Γ r t → (i : ℕ) × (i < max 1 (length r)) × (rotate Γ i r ≡ t)
+  pub rotated-place : {r t : Word Γ} → Rotated Γ r t → (i : ℕ) × (i < max 1 (length r)) × (rotate i r ≡ t)
   rotated-place {r} stay = (zero, omega arith, append-nil r)
   rotated-place (roll {b = b} {r = r} {t = t} k) =
       let (i, h, e) = rotated-place k in
       let l : i ≤ length r = omega (arith, length-append r (b ∷ [])) in
       go i l (sym (rotate-roll i b r l) ∙ e) (decLt i (length r))
     where
-      go : (i : ℕ) → i ≤ length r → rotate Γ (suc i) (b ∷ r) ≡ t → Dec (i < length r)
-          → (j : ℕ) × (j < max 1 (suc (length r))) × (rotate Γ j (b ∷ r) ≡ t)
+      go : (i : ℕ) → i ≤ length r → rotate (suc i) (b ∷ r) ≡ t → Dec (i < length r)
+          → (j : ℕ) × (j < max 1 (suc (length r))) × (rotate j (b ∷ r) ≡ t)
       go i l e (yes h) = (suc i, omega arith, e)
       go i l e (no n) =
           let s : i ≡ length r = omega arith in
-          let f : rotate Γ (suc (length r)) (b ∷ r) ≡ t = rw s at e in
+          let f : rotate (suc (length r)) (b ∷ r) ≡ t = rw s at e in
           (zero, omega arith, append-nil (b ∷ r) ∙ sym (rotate-all (b ∷ r)) ∙ f)
 
   pub rotated-length : {r t : Word Γ} → Rotated Γ r t → length r ≡ length t
@@ -77,7 +77,7 @@ module _ (Γ : Alphabet) where
   cycle-conj p q {w} e = conj-of Γ p w (then (≈-after Γ e p) (≈-of-≡ Γ (append-assoc p q p)))
 
   -- a rotation is the conjugate by the letters before its starting place
-  pub rotate-conj : (i : ℕ) (r : Word Γ) → conj Γ (take i r) r ≈ rotate Γ i r
+  pub rotate-conj : (i : ℕ) (r : Word Γ) → conj Γ (take i r) r ≈ rotate i r
   rotate-conj i r = cycle-conj (take i r) (drop i r) (≈-of-≡ Γ (sym (take-append-drop i r)))
 
   -- the search
@@ -109,19 +109,19 @@ module _ (Γ : Alphabet) where
   pub record Found (r t : Word Γ) (from end i : ℕ) : Type 0 where
     pub after : from ≤ i
     pub before : i < end
-    pub fits : rotate Γ i r ≡ t
-    pub first : (j : ℕ) → from ≤ j → j < i → ¬ (rotate Γ j r ≡ t)
+    pub fits : rotate i r ≡ t
+    pub first : (j : ℕ) → from ≤ j → j < i → ¬ (rotate j r ≡ t)
 
   pub search-some : (r t : Word Γ) (n i : ℕ) {k : ℕ} → search Γ r t n i ≡ some k → Found r t i (i + n) k
   unfolding search search-step
   search-some r t zero i {k} e = absurd (Option·none-ne-some k e)
-  search-some r t (suc n) i {k} e = go (agree Γ (rotate Γ i r) t) refl e (search-some r t n (suc i))
+  search-some r t (suc n) i {k} e = go (agree Γ (rotate i r) t) refl e (search-some r t n (suc i))
     where
-      go : (b : Bool) → agree Γ (rotate Γ i r) t ≡ b → search-step Γ b i (search Γ r t n) ≡ some k
+      go : (b : Bool) → agree Γ (rotate i r) t ≡ b → search-step Γ b i (search Γ r t n) ≡ some k
           → (search Γ r t n (suc i) ≡ some k → Found r t (suc i) (suc i + n) k) → Found r t i (i + suc n) k
       go true s e ih =
           let f : i ≡ k = Option·some-injective i k e in
-          let x : rotate Γ i r ≡ t = agree-true (rotate Γ i r) t s in
+          let x : rotate i r ≡ t = agree-true (rotate i r) t s in
           record {
             after = omega arith;
             before = omega arith;
@@ -137,30 +137,30 @@ module _ (Γ : Alphabet) where
             first = early o;
           }
         where
-          early : Found r t (suc i) (suc i + n) k → (j : ℕ) → i ≤ j → j < k → ¬ (rotate Γ j r ≡ t)
+          early : Found r t (suc i) (suc i + n) k → (j : ℕ) → i ≤ j → j < k → ¬ (rotate j r ≡ t)
           early o j h l = pass (decLt i j)
             where
-              pass : Dec (i < j) → ¬ (rotate Γ j r ≡ t)
+              pass : Dec (i < j) → ¬ (rotate j r ≡ t)
               pass (yes g) = o .first j g l
-              pass (no g) = let f : i ≡ j = omega arith in rw (← f) (agree-false (rotate Γ i r) t s)
+              pass (no g) = let f : i ≡ j = omega arith in rw (← f) (agree-false (rotate i r) t s)
 
   pub search-none : (r t : Word Γ) (n i : ℕ) → search Γ r t n i ≡ none
-      → (j : ℕ) → i ≤ j → j < i + n → ¬ (rotate Γ j r ≡ t)
+      → (j : ℕ) → i ≤ j → j < i + n → ¬ (rotate j r ≡ t)
   unfolding search search-step
   search-none r t zero i e j h k = absurd (omega arith)
   search-none r t (suc n) i e j h k =
-      go (agree Γ (rotate Γ i r) t) refl e (search-none r t n (suc i)) (decLt i j)
+      go (agree Γ (rotate i r) t) refl e (search-none r t n (suc i)) (decLt i j)
     where
-      go : (b : Bool) → agree Γ (rotate Γ i r) t ≡ b → search-step Γ b i (search Γ r t n) ≡ none
-          → (search Γ r t n (suc i) ≡ none → (j : ℕ) → suc i ≤ j → j < suc i + n → ¬ (rotate Γ j r ≡ t))
-          → Dec (i < j) → ¬ (rotate Γ j r ≡ t)
+      go : (b : Bool) → agree Γ (rotate i r) t ≡ b → search-step Γ b i (search Γ r t n) ≡ none
+          → (search Γ r t n (suc i) ≡ none → (j : ℕ) → suc i ≤ j → j < suc i + n → ¬ (rotate j r ≡ t))
+          → Dec (i < j) → ¬ (rotate j r ≡ t)
       go true s e ih d = absurd (Option·some-ne-none i e)
       go false s e ih (yes g) = ih e j g (omega arith)
-      go false s e ih (no g) = let f : i ≡ j = omega arith in rw (← f) (agree-false (rotate Γ i r) t s)
+      go false s e ih (no g) = let f : i ≡ j = omega arith in rw (← f) (agree-false (rotate i r) t s)
 
   -- the place found is the first at which r is t
   pub rotation-some : (r t : Word Γ) {i : ℕ} → rotation Γ r t ≡ some i
-      → (i < max 1 (length r)) × (rotate Γ i r ≡ t) × ((j : ℕ) → j < i → ¬ (rotate Γ j r ≡ t))
+      → (i < max 1 (length r)) × (rotate i r ≡ t) × ((j : ℕ) → j < i → ¬ (rotate j r ≡ t))
   unfolding rotation
   rotation-some r t e =
       let o = search-some r t (max 1 (length r)) 0 e in
