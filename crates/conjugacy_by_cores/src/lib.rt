@@ -10,6 +10,7 @@ ghost use Prim.Native.Nat.{ℕ, _≤_};
 ghost use mathlib.Core.List.{List};
 ghost use lib.ListN.{length};
 ghost use Rattle.conjugacy_by_cores.specs.Join.{Cores, wordRoom, WordOutcome, FormRoom, FormOutcome};
+
 // Whether the plans with these cores are joined, and the lead-in as a word at the start of the row, not yet in normal
 // form.
 fn lead_in_word(

@@ -19,7 +19,7 @@ pub record Exchange (word low : List ℕ) (lower : ℕ) (high : List ℕ) (upper
 -- the word is the upper half and then the lower one, which is also written at place `at`
 pub record Exchanged (word low : List ℕ) (lower : ℕ) (high : List ℕ) (upper : ℕ) (out out′ : List ℕ) (at : ℕ)
     : Type 0 where
-  pub turned : word ≡ take upper high ++ take lower low
+  pub halves : word ≡ take upper high ++ take lower low
   pub written : take (at + lower) out′ ≡ take at out ++ take lower low
 
 -- the word can be split, and `out` has room from place `at` on for what so many rounds cycle

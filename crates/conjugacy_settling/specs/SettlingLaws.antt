@@ -35,8 +35,8 @@ module _ (Γ : Alphabet) (m : ℕ) where
       let s = split Γ m [] w in
       sym (~-length Γ (split-~ Γ m (split-splits Γ m [] w)) ∙ length-append (s .0) (s .1))
 
-  split-turned : (P : Γ .Letter → Type 0) (w : Word Γ) → All P w → All P (split Γ m [] w .1 ++ split Γ m [] w .0)
-  split-turned P w h =
+  split-exchanged : (P : Γ .Letter → Type 0) (w : Word Γ) → All P w → All P (split Γ m [] w .1 ++ split Γ m [] w .0)
+  split-exchanged P w h =
       let (p, q) = split Γ m [] w in
       let k : All P (p ++ q) = all-along Γ P (split-~ Γ m (split-splits Γ m [] w)) h in
       all-append P q p (all-right P p q k) (all-left P p q k)
@@ -82,7 +82,7 @@ pub exchanged : {word low : List ℕ} {lower : ℕ} {high : List ℕ} {upper : �
     → word₁ ≡ paste word 0 high upper → word₂ ≡ paste word₁ upper low lower
     → Exchanged word₂ low lower high upper out out′ at
 exchanged {word} {low} {lower} {high} {upper} {out} {at = at} x o e f = record {
-  turned = rw (f, e) (pasted-twice word low high lower upper (x .highs) (x .whole));
+  halves = rw (f, e) (pasted-twice word low high lower upper (x .highs) (x .whole));
   written = rw o (take-paste out at low lower (omega (arith, x .room)) (x .lows));
 }
 
@@ -217,10 +217,10 @@ module _ {word₀ : List ℕ} {apex rounds : ℕ} {conflicts : List (List ℕ)} 
               let o : ¬ (p ≡ []) = λ z. n (starts-length (h .lower) ∙ ap length z) in
               let k : left ≡ suc (left - 1) = omega arith in
               let (s, y) = rounds-turn Γ apex (left - 1) word o in
-              let v : word′ ≡ q ++ p = rw (starts-take (h .lower), starts-take (h .upper)) at (x .turned) in
+              let v : word′ ≡ q ++ p = rw (starts-take (h .lower), starts-take (h .upper)) at (x .halves) in
               let w : take (end + ends .low) out′ ≡ take end out ++ p = rw (starts-take (h .lower)) at (x .written) in
               record {
-                letters = rw v (split-turned Γ apex Lettered word (t .letters));
+                letters = rw v (split-exchanged Γ apex Lettered word (t .letters));
                 g = t .g ++ p;
                 written = w ∙ ap (λ (z : List ℕ). z ++ p) (t .written) ∙ append-assoc (take at out₀) (t .g) p;
                 ended = omega (arith, length-append (t .g) p, t .ended, h .lower .ends);

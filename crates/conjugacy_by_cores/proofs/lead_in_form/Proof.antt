@@ -11,17 +11,17 @@ use Rattle.conjugacy_by_cores.proofs.lead_in_form.Tie as tie
 
 -- places on the way
 
-abbrev led : tie.After-way → tie.After-lead-in-word
-led q = q .before .before .before .before
+abbrev after-lead-in-word : tie.After-way → tie.After-lead-in-word
+after-lead-in-word q = q .before .before .before .before
 
 abbrev start : tie.After-way → tie.Start
-start q = led q .before .before .before .before .before .before .before .before
+start q = after-lead-in-word q .before .before .before .before .before .before .before .before
 
 word : (q : tie.After-way) (k v w : List ℕ)
     → (let s = start q .args in
     Cores k (s .conflicts .now) v w (s .core1 .now) (s .lead1 .now) (s .core2 .now) (s .lead2 .now) (s .commands)
-    → WordJoined k v w (led q .lead-in-word .last .1 .1 .1 .1 .1 .1 .0) (q .way .given .0 .0))
-word q k v w p = word-joined k v w _ (led q .lead-in-word .ensures k v w p) (q .way .given .1)
+    → WordJoined k v w (after-lead-in-word q .lead-in-word .last .1 .1 .1 .1 .1 .1 .0) (q .way .given .0 .0))
+word q k v w p = word-joined k v w _ (after-lead-in-word q .lead-in-word .ensures k v w p) (q .way .given .1)
 
 returns : tie.Need-returns
 returns c =

@@ -19,14 +19,14 @@ start-from-append-arg c = c .before .before .before .before .before .before
 abbrev start-from-append : tie.After-append → tie.Start
 start-from-append c = c .before .before .before .before .before .before .before
 
-abbrev begun : tie.After-join-cores → tie.After-append
-begun j = j .before .before .before .before
+abbrev after-append : tie.After-join-cores → tie.After-append
+after-append j = j .before .before .before .before
 
 abbrev start : tie.After-join-cores → tie.Start
-start j = begun j .before .before .before .before .before .before .before
+start j = after-append j .before .before .before .before .before .before .before
 
-abbrev led : tie.After-way → tie.After-join-cores
-led q = q .before .before .before .before
+abbrev after-join-cores : tie.After-way → tie.After-join-cores
+after-join-cores q = q .before .before .before .before
 
 -- what is asked, for one catalogue and two plans
 abbrev Asked : tie.After-join-cores → List ℕ → List ℕ → List ℕ → Type 0
@@ -36,17 +36,18 @@ Asked j k v w =
 
 -- what the way from core to core tells
 way : (j : tie.After-join-cores) (k v w : List ℕ) → Asked j k v w
-    → (let s = start j .args in let a = begun j .append in
+    → (let s = start j .args in let a = after-append j .append in
     CoresOutcome k (s .core1 .now) (s .core2 .now) (a .last .0) (a .result) (j .join-cores .last .1 .1 .1 .1 .0)
     (j .join-cores .result))
 way j k v w p =
-    j .join-cores .ensures k (join-coreable p (start j .args .row .now) (start j .pre .4) (begun j .append .ensures))
+    j .join-cores .ensures k
+    (join-coreable p (start j .args .row .now) (start j .pre .4) (after-append j .append .ensures))
 
-way-led : (q : tie.After-way) (k v w : List ℕ) → Asked (led q) k v w
-    → (let j = led q in let s = start j .args in let a = begun j .append in
+way-joined : (q : tie.After-way) (k v w : List ℕ) → Asked (after-join-cores q) k v w
+    → (let j = after-join-cores q in let s = start j .args in let a = after-append j .append in
     CoresJoined k (s .core1 .now) (s .core2 .now) (a .last .0) (a .result) (j .join-cores .last .1 .1 .1 .1 .0)
     (q .way .given .0 .0))
-way-led q k v w p = cores-joined k _ _ _ _ _ (way (led q) k v w p) (q .way .given .1)
+way-joined q k v w p = cores-joined k _ _ _ _ _ (way (after-join-cores q) k v w p) (q .way .given .1)
 
 append-requires : tie.Need-append-requires
 append-requires c κs =
@@ -69,23 +70,23 @@ returns c =
 append-undone-requires : tie.Need-append-undone-requires
 append-undone-requires c κs =
     let q = c .before .before in
-    let j = led q in
-    let a = begun j .append in
+    let j = after-join-cores q in
+    let a = after-append j .append in
     let (k, v, w, p, r) = start j .pre in
-    let l = join-short p (start j .args .row .now) r (a .ensures) (way-led q k v w p) in
+    let l = join-short p (start j .args .row .now) r (a .ensures) (way-joined q k v w p) in
     omega (arith, l, j .join-cores .kept .1 .1 .1 .1 .0, a .kept .0)
 
 returns-2 : tie.Need-returns-2
 returns-2 c =
     let b = c .before .before in
     let q = b .before .before .before in
-    let j = led q in
-    let a = begun j .append in
+    let j = after-join-cores q in
+    let a = after-append j .append in
     let row = start j .args .row .now in
     let r = start j .pre .4 in
     λ k v w p.
-    let l = join-short p row r (a .ensures) (way-led q k v w p) in
-    join-word p (a .ensures) (omega (arith, a .ensures .ends, lead-room p row r)) (way-led q k v w p)
+    let l = join-short p row r (a .ensures) (way-joined q k v w p) in
+    join-word p (a .ensures) (omega (arith, a .ensures .ends, lead-room p row r)) (way-joined q k v w p)
     (b .append-undone .ensures) (omega (arith, l, j .join-cores .kept .1 .1 .1 .1 .0, a .kept .0))
 
 pub lead-in-word-spec : {M : Type 1} → statement M

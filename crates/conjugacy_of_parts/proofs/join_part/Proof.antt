@@ -27,17 +27,17 @@ start-from-ring-of-arg c = c .before .before .before .before .before .before .be
 abbrev start : tie.After-ring-of → tie.Start
 start a = a .before .before .before .before .before .before .before .before
 
-abbrev ringed : tie.After-first → tie.After-ring-of
-ringed p = p .before .before .before .before .before
+abbrev ring-of-from-first : tie.After-first → tie.After-ring-of
+ring-of-from-first p = p .before .before .before .before .before
 
-abbrev known : tie.After-ring-of2 → tie.After-first
-known b = b .before .before .before .before
+abbrev after-first : tie.After-ring-of2 → tie.After-first
+after-first b = b .before .before .before .before
 
-abbrev ringed2 : tie.After-second → tie.After-ring-of2
-ringed2 q = q .before .before .before .before .before
+abbrev ring-of2-from-second : tie.After-second → tie.After-ring-of2
+ring-of2-from-second q = q .before .before .before .before .before
 
 abbrev first : tie.After-second → tie.After-first
-first q = known (ringed2 q)
+first q = after-first (ring-of2-from-second q)
 
 -- what is asked, for one catalogue
 abbrev Asked : tie.After-ring-of → List ℕ → Type 0
@@ -53,28 +53,31 @@ first-asked a k h = part-first h _ (a .before .before .before .before .sheet .en
 
 -- the rings found
 
-one : (p : tie.After-first) (k : List ℕ) → Asked (ringed p) k
-    → (let a = ringed p in let s = start a .args in
+one : (p : tie.After-first) (k : List ℕ) → Asked (ring-of-from-first p) k
+    → (let a = ring-of-from-first p in let s = start a .args in
     Rung k (s .core1 .now) (s .apex) (a .ring-of .last .1 .1 .1 .1 .1 .0) (s .row .now)
     (a .ring-of .last .1 .1 .1 .1 .1 .1 .0) (s .at) (p .first .given .0 .0))
-one p k h = rings-of k _ _ _ _ _ _ _ (ringed p .ring-of .ensures k (first-asked (ringed p) k h)) (p .first .given .1)
+one p k h =
+    let a = ring-of-from-first p in
+    rings-of k _ _ _ _ _ _ _ (a .ring-of .ensures k (first-asked a k h)) (p .first .given .1)
 
-second-asked : (p : tie.After-first) (k : List ℕ) → Asked (ringed p) k
-    → (let a = ringed p in let s = start a .args in
+second-asked : (p : tie.After-first) (k : List ℕ) → Asked (ring-of-from-first p) k
+    → (let a = ring-of-from-first p in let s = start a .args in
     Ringable k (s .conflicts .now) (s .core2 .now) (s .labels .now) (s .apex) (s .rounds)
     (a .before .before .before .sheet2 .result)
     (a .ring-of .last .1 .1 .1 .1 .1 .1 .0) (p .first .given .0 .0 .cycled))
 second-asked p k h =
-    let a = ringed p in
+    let a = ring-of-from-first p in
     part-second h (one p k h) (a .ring-of .kept .1 .1 .1 .1 .1 .1 .0) _ (a .before .before .before .sheet2 .ensures)
 
-two : (q : tie.After-second) (k : List ℕ) → Asked (ringed (first q)) k
-    → (let p = first q in let s = start (ringed p) .args in
-    Rung k (s .core2 .now) (s .apex) (ringed2 q .ring-of2 .last .1 .1 .1 .1 .1 .0)
-    (ringed p .ring-of .last .1 .1 .1 .1 .1 .1 .0) (ringed2 q .ring-of2 .last .1 .1 .1 .1 .1 .1 .0)
+two : (q : tie.After-second) (k : List ℕ) → Asked (ring-of-from-first (first q)) k
+    → (let p = first q in let a = ring-of-from-first p in let b = ring-of2-from-second q in let s = start a .args in
+    Rung k (s .core2 .now) (s .apex) (b .ring-of2 .last .1 .1 .1 .1 .1 .0)
+    (a .ring-of .last .1 .1 .1 .1 .1 .1 .0) (b .ring-of2 .last .1 .1 .1 .1 .1 .1 .0)
     (p .first .given .0 .0 .cycled) (q .second .given .0 .0))
 two q k h =
-    rings-of k _ _ _ _ _ _ _ (ringed2 q .ring-of2 .ensures k (second-asked (first q) k h)) (q .second .given .1)
+    let b = ring-of2-from-second q in
+    rings-of k _ _ _ _ _ _ _ (b .ring-of2 .ensures k (second-asked (first q) k h)) (q .second .given .1)
 
 ring-of-requires : tie.Need-ring-of-requires
 ring-of-requires c κs =
@@ -89,53 +92,54 @@ returns c =
 ring-of-requires-2 : tie.Need-ring-of-requires-2
 ring-of-requires-2 c κs =
     let p = c .before .before .before in
-    let (k, h) = start (ringed p) .pre in
+    let (k, h) = start (ring-of-from-first p) .pre in
     (k, second-asked p k h)
 
 returns-2 : tie.Need-returns-2
 returns-2 c =
     let b = after-ring-of2 c in
     λ k h.
-    absurd (second-settled h _ _ _ _ (b .ring-of2 .ensures k (second-asked (known b) k h)) (c .enum-told2 .given .1))
+    absurd (second-settled h _ _ _ _ (b .ring-of2 .ensures k (second-asked (after-first b) k h))
+    (c .enum-told2 .given .1))
 
 array-share-prefix-ring : tie.Need-array-share-prefix-ring
 array-share-prefix-ring c =
     let p = first (c .before) in
-    let (k, h) = start (ringed p) .pre in
+    let (k, h) = start (ring-of-from-first p) .pre in
     rung-fits (one p k h)
 
 slice-aggregate-join-rings : tie.Need-slice-aggregate-join-rings
 slice-aggregate-join-rings c =
     let p = first (c .before .before) in
-    let (k, h) = start (ringed p) .pre in
+    let (k, h) = start (ring-of-from-first p) .pre in
     rung-count (one p k h)
 
 array-share-prefix-other : tie.Need-array-share-prefix-other
 array-share-prefix-other c =
     let q = c .before .before in
-    let (k, h) = start (ringed (first q)) .pre in
+    let (k, h) = start (ring-of-from-first (first q)) .pre in
     rung-fits (two q k h)
 
 slice-aggregate-join-rings-2 : tie.Need-slice-aggregate-join-rings-2
 slice-aggregate-join-rings-2 c =
     let q = c .before .before .before in
-    let (k, h) = start (ringed (first q)) .pre in
+    let (k, h) = start (ring-of-from-first (first q)) .pre in
     rung-count (two q k h)
 
 join-rings-requires : tie.Need-join-rings-requires
 join-rings-requires c κs =
     let q = c .before .before .before .before in
-    let a = ringed (first q) in
+    let a = ring-of-from-first (first q) in
     let (k, h) = start a .pre in
     rings-room h (one (first q) k h) (a .ring-of .kept .1 .1 .1 .1 .1 .1 .0) (two q k h)
-    (ringed2 q .ring-of2 .kept .1 .1 .1 .1 .1 .1 .0)
+    (ring-of2-from-second q .ring-of2 .kept .1 .1 .1 .1 .1 .1 .0)
 
 returns-3 : tie.Need-returns-3
 returns-3 c =
     let q = after-second c in
     let j = c .before .before .join-rings in
-    let m = ringed (first q) .ring-of .kept .1 .1 .1 .1 .1 .1 .0 in
-    let n = ringed2 q .ring-of2 .kept .1 .1 .1 .1 .1 .1 .0 in
+    let m = ring-of-from-first (first q) .ring-of .kept .1 .1 .1 .1 .1 .1 .0 in
+    let n = ring-of2-from-second q .ring-of2 .kept .1 .1 .1 .1 .1 .1 .0 in
     λ k h.
     let f = one (first q) k h in
     let g = two q k h in

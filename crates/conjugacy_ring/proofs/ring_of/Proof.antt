@@ -34,11 +34,11 @@ start-from-word c = c .before .before .before .before .before .before .before
 abbrev start : tie.After-part → tie.Start
 start p = p .before .before .before .before .before .before .before .before
 
-abbrev copy : tie.After-settle → tie.After-part
-copy t = t .before .before .before .before .before .before
+abbrev part-from-settle : tie.After-settle → tie.After-part
+part-from-settle t = t .before .before .before .before .before .before
 
-abbrev settling : tie.After-settled → tie.After-settle
-settling q = q .before .before .before .before .before .before .before
+abbrev settle-from-settled : tie.After-settled → tie.After-settle
+settle-from-settled q = q .before .before .before .before .before .before .before
 
 -- what is asked, for one catalogue
 abbrev Asked : tie.After-part → List ℕ → Type 0
@@ -61,13 +61,13 @@ settleable p k h =
     (p .before .before .sheet3 .ensures)
 
 -- the rounds were enough
-ended : (q : tie.After-settled) (k : List ℕ) → Asked (copy (settling q)) k
-    → (let p = copy (settling q) in let s = start p .args in let t = settling q .settle in
+ended : (q : tie.After-settled) (k : List ℕ) → Asked (part-from-settle (settle-from-settled q)) k
+    → (let a = settle-from-settled q in let p = part-from-settle a in let s = start p .args in let t = a .settle in
     Ended k (s .apex) (s .rounds) (take (p .part .result) (p .part .last .1 .1 .1 .0)) (t .last .0) (s .cycled .now)
     (t .last .1 .1 .1 .1 .1 .1 .0) (s .at) (q .settled .given .0 .0))
 ended q k h =
-    answered-done k _ _ _ _ _ _ _ (settling q .settle .ensures k (settleable (copy (settling q)) k h))
-    (q .settled .given .1)
+    let a = settle-from-settled q in
+    answered-done k _ _ _ _ _ _ _ (a .settle .ensures k (settleable (part-from-settle a) k h)) (q .settled .given .1)
 
 part-requires : tie.Need-part-requires
 part-requires c κs =
@@ -95,7 +95,7 @@ settle-requires c κs =
 returns : tie.Need-returns
 returns c =
     let t = after-settle c in
-    let p = copy t in
+    let p = part-from-settle t in
     λ k h.
     ringable-unsettled h (starts-take (copied p k h))
     (answered-unsettled k _ _ _ _ _ _ _ (t .settle .ensures k (settleable p k h)) (c .enum-told .given .1))
@@ -103,7 +103,7 @@ returns c =
 array-share-prefix-word : tie.Need-array-share-prefix-word
 array-share-prefix-word c =
     let q = c .before in
-    let p = copy (settling q) in
+    let p = part-from-settle (settle-from-settled q) in
     let (k, h) = start p .pre in
     let d = copied p k h in
     ended-fits h (starts-take d) (ended q k h) _ _ (starts-count d)
@@ -111,7 +111,7 @@ array-share-prefix-word c =
 slice-aggregate-form : tie.Need-slice-aggregate-form
 slice-aggregate-form c =
     let q = c .before .before in
-    let p = copy (settling q) in
+    let p = part-from-settle (settle-from-settled q) in
     let (k, h) = start p .pre in
     let d = copied p k h in
     ended-count h (starts-take d) (ended q k h) _ _ (starts-count d)
@@ -119,7 +119,7 @@ slice-aggregate-form c =
 form-requires : tie.Need-form-requires
 form-requires c κs =
     let q = c .before .before .before in
-    let p = copy (settling q) in
+    let p = part-from-settle (settle-from-settled q) in
     let (k, h) = start p .pre in
     let d = starts-take (copied p k h) in
     let o = ended q k h in
@@ -128,7 +128,7 @@ form-requires c κs =
 returns-2 : tie.Need-returns-2
 returns-2 c =
     let q = after-settled c in
-    let p = copy (settling q) in
+    let p = part-from-settle (settle-from-settled q) in
     λ k h.
     let d = starts-take (copied p k h) in
     let o = ended q k h in
