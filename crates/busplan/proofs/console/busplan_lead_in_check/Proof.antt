@@ -7,10 +7,13 @@ use borrow.Author.Needs.{needs}
 use Rattle.busplan.proofs.console.busplan_lead_in_check.Statement.{statement}
 use Rattle.busplan.proofs.console.busplan_lead_in_check.Tie as tie
 
+-- a place on the way
+abbrev after-lead-in-check : tie.After-check-code → tie.After-lead-in-check
+after-lead-in-check c = c .before .before .before .before .before
+
 returns : tie.Need-returns
 returns c =
-    let f = c .before .before .before .before .before in
-    let h = f .lead-in-check .ensures in (
+    let h = after-lead-in-check c .lead-in-check .ensures in (
       toZ-ofZ w64 (c .check-code .result) (record { sfits = c .check-code .ok })
           ∙ c .check-code .ensures
           ∙ ap checkCode (h .0),

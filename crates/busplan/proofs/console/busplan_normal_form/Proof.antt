@@ -9,10 +9,14 @@ use borrow.Author.Needs.{needs}
 use Rattle.busplan.proofs.console.busplan_normal_form.Statement.{statement}
 use Rattle.busplan.proofs.console.busplan_normal_form.Tie as tie
 
+-- a place on the way
+abbrev start : tie.After-normal-form → tie.Start
+start f = f .before .before .before .before .before
+
 length-code-requires : tie.Need-length-code-requires
 length-code-requires c κs = λ l e.
     let f = c .before .before in
-    let s = f .before .before .before .before .before in
+    let s = start f in
     let a = s .args in
     let h = written-length (a .catalogue .now) (a .plan .now) (a .area .now) l (f .normal-form .ensures .0) e in
     omega (arith, h, s .good .1 .0 .1)
