@@ -17,9 +17,9 @@ use Rattle.theory_conjugacy.specs.Part.{commands, label, apexes, share, part}
 use Rattle.theory_conjugacy.specs.PartLaws.{shares}
 use Rattle.theory_conjugacy.specs.Decision.{part-ring, rotated?, parts-joined?}
 use Rattle.theory_conjugacy.specs.LeadIn.{part-lead, parts-lead}
-use Rattle.conjugacy_parts.specs.Flags.{Flags, LabelsOf}
-use Rattle.conjugacy_parts.specs.Merge.{flagged}
-use Rattle.conjugacy_parts.specs.FlagsLaws.{flags-list}
+use Rattle.conjugacy_commands.specs.Flags.{Flags, flagged}
+use Rattle.conjugacy_commands.specs.FlagsLaws.{flags-list}
+use Rattle.conjugacy_labels.specs.Labels.{LabelsOf}
 use Rattle.conjugacy_of_cores.specs.Pair.{apexAt, apexesFrom}
 
 and-assoc : (a b c : Bool) → ((a && b) && c) ≡ (a && (b && c))

@@ -12,7 +12,8 @@ use Rattle.theory_conjugacy.specs.Decision.{parts-joined?, cores-joined?}
 use Rattle.theory_words.specs.Alike.{alike?}
 use Rattle.theory_words.specs.AlikeLaws.{alike-true, alike-refl}
 use Rattle.theory_conjugacy.specs.LeadIn.{parts-lead}
-use Rattle.conjugacy_parts.specs.Flags.{Flags, LabelsOf}
+use Rattle.conjugacy_commands.specs.Flags.{Flags}
+use Rattle.conjugacy_labels.specs.Labels.{LabelsOf}
 use Rattle.conjugacy_of_parts.specs.declared.Outcome.{Outcome}
 use Rattle.conjugacy_of_parts.specs.declared.Outcome.the-variants.{Joined, Apart, Unsettled}
 use Rattle.conjugacy_of_parts.specs.Parts.{PartsOutcome}

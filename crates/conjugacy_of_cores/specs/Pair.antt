@@ -14,7 +14,7 @@ use Rattle.theory_words.specs.Filter.{keepIf}
 use Rattle.theory_conjugacy.specs.Part.{commands, label, apexes}
 use Rattle.theory_conjugacy.specs.PartLaws.{shares}
 use Rattle.theory_conjugacy.specs.Decision.{cores-joined?}
-use Rattle.conjugacy_parts.specs.Flags.{Flags}
+use Rattle.conjugacy_commands.specs.Flags.{Flags}
 use Rattle.conjugacy_ring.specs.Ring.{Cyclic}
 use Rattle.conjugacy_of_parts.specs.declared.Outcome.{Outcome}
 use Rattle.conjugacy_of_parts.specs.declared.Outcome.the-variants.{Joined, Apart, Unsettled}

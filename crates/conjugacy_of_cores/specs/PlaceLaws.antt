@@ -5,7 +5,7 @@ use mathlib.Core.List.{List, [], _∷_, append-nil}
 use lib.ListN.{length, getD}
 use lib.Dec.{eqb}
 use borrow.Author.Tests.{eq-eqb}
-use Rattle.conjugacy_parts.specs.FlagsLaws.{flag-set}
+use Rattle.conjugacy_commands.specs.FlagsLaws.{flag-set}
 use Rattle.spec.specs.Letters.{alphabet}
 use Rattle.theory_words.specs.FilterLaws.{mem-filter}
 use Rattle.theory_conjugacy.specs.AscendingLaws.{_∈_}

@@ -2,11 +2,11 @@
 // other, behind what stands in a row.
 
 use array_row::same_bytes;
+use conjugacy_commands::occurring;
+use conjugacy_commands::same_commands;
+use conjugacy_labels::labels;
 use conjugacy_of_parts::Outcome;
 use conjugacy_of_parts::join_part;
-use conjugacy_parts::labels;
-use conjugacy_parts::occurring;
-use conjugacy_parts::same_commands;
 ghost use Prim.Native.Nat.{ℕ, _+_, _*_, _<_, _≤_};
 ghost use mathlib.Core.List.{List};
 ghost use lib.ListN.{length};

@@ -13,7 +13,7 @@ use Rattle.theory_conjugacy.specs.Part.{label, apexes, part}
 use Rattle.theory_conjugacy.specs.Settle.{split, settled}
 use Rattle.theory_conjugacy.specs.Decision.{part-ring}
 use Rattle.theory_conjugacy.specs.LeadIn.{settling}
-use Rattle.conjugacy_parts.specs.Flags.{LabelsOf}
+use Rattle.conjugacy_labels.specs.Labels.{LabelsOf}
 use Rattle.conjugacy_ring.specs.declared.Ends.{Ends}
 use Rattle.conjugacy_ring.specs.declared.Ringed.{Ringed}
 use Rattle.conjugacy_ring.specs.declared.Ringed.the-variants.{Of, Unsettled}

@@ -1,6 +1,9 @@
 -- A property of every element of a list, or of every letter of a word.
+use Prim.Native.Nat.{ℕ, zero, suc, _<_}
 use mathlib.Core.List.{List, [], _∷_, _++_, reverse, reverseAux, List·Memᴰ, List·Memᴰ·head, List·Memᴰ·tail}
 use mathlib.Core.Path.{sym, subst}
+use native.Mathlib.Omega.{arith}
+use lib.ListN.{length, getD}
 use Rattle.theory_words.specs.Alphabet.{Alphabet, Word}
 use Rattle.theory_words.specs.Trace as Trace
 use Rattle.theory_words.specs.Trace.{Pick, here, there, done, cons, swap, next}
@@ -17,6 +20,11 @@ module _ {A : Type 0} (P : A → Type 0) where
   pub all-by : (w : List A) → ((a : A) → List·Memᴰ a w → P a) → All w
   all-by [] f = tt
   all-by (a ∷ w) f = (f a (List·Memᴰ·head (λ i. a)), all-by w (λ b m. f b (List·Memᴰ·tail m)))
+
+  pub all-at : (w : List A) (i : ℕ) (d : A) → All w → i < length w → P (getD w i d)
+  all-at [] i d h l = absurd (omega arith)
+  all-at (a ∷ w) zero d h l = h .0
+  all-at (a ∷ w) (suc i) d h l = all-at w i d (h .1) (omega arith)
 
   pub all-append : (u v : List A) → All u → All v → All (u ++ v)
   all-append [] v h k = k
