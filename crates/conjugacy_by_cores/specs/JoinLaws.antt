@@ -15,7 +15,7 @@ use Rattle.array_row.specs.AreaLaws.{starts-length, starts-area}
 use Rattle.spec.specs.Byte.{undone, undoOf}
 use Rattle.spec.specs.Letters.{letters, alphabet, normalForm}
 use Rattle.spec_laws.specs.LettersLaws.{letters-length, commands-passing}
-use Rattle.long_form.specs.Reducing.{Given}
+use Rattle.long_reduction.specs.Reducing.{Given}
 use Rattle.long_form.specs.Forming.{Formable}
 use Rattle.array_row.specs.Row.{Appended}
 use Rattle.array_row.specs.RowLaws.{appended-take, appended-length}

@@ -38,7 +38,7 @@ use Rattle.theory_conjugacy.specs.JoinLaws.{part-all}
 use Rattle.conjugacy_settling.specs.Settling.{Settleable, Ended, Answered}
 use Rattle.conjugacy_settling.specs.declared.Settled.{Settled}
 use Rattle.conjugacy_settling.specs.declared.Settled.the-variants.{Done, Unsettled}
-use Rattle.long_form.specs.Reducing.{Given}
+use Rattle.long_reduction.specs.Reducing.{Given}
 use Rattle.long_form.specs.Forming.{Formable}
 use Rattle.conjugacy_ring.specs.PartLaws.{part-round, turns-all}
 use Rattle.conjugacy_ring.specs.Ring.{Cyclic, Ringable, Rung}

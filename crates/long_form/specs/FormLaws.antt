@@ -8,8 +8,8 @@ use Rattle.theory_words.specs.Reduce.{reduce}
 use Rattle.theory_words.specs.ReduceLaws.{reduce-length}
 use Rattle.array_row.specs.Area.{StartsWith, ReadOff}
 use Rattle.spec.specs.Letters.{letters, alphabet, normalForm}
-use Rattle.long_form.specs.Reducing.{Reducing}
-use Rattle.long_form.specs.Reading.{Readable}
+use Rattle.long_reduction.specs.Reducing.{Reducing}
+use Rattle.long_read.specs.Reading.{Readable}
 
 pub form-readable : {c : List ℕ} {conflicts : List (List ℕ)} {word under link tops blanks area : List ℕ}
     → length (letters word) ≤ length area → Reducing c conflicts word under link tops blanks 0

@@ -4,7 +4,7 @@ use mathlib.Core.List.{List}
 use lib.ListN.{length}
 use Rattle.array_row.specs.Area.{StartsWith}
 use Rattle.spec.specs.Letters.{letters, normalForm}
-use Rattle.long_form.specs.Reducing.{Given}
+use Rattle.long_reduction.specs.Reducing.{Given}
 
 -- a word of at most so many bytes, and an area with room for its letters
 pub record Formable (most : ℕ) (c : List ℕ) (conflicts : List (List ℕ)) (word area : List ℕ) : Type 0 where

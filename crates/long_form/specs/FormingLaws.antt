@@ -5,7 +5,7 @@ use mathlib.Core.Path.{_≡_}
 use mathlib.Core.List.{List}
 use native.Mathlib.Omega.{arith}
 use lib.ListN.{length}
-use Rattle.long_form.specs.Reducing.{Given}
+use Rattle.long_reduction.specs.Reducing.{Given}
 use Rattle.long_form.specs.Form.{Room}
 use Rattle.long_form.specs.Forming.{Formable}
 

@@ -1,126 +1,21 @@
-// The normal form of a long word, in time linear in its length: its letters are put on stacks from its right end, each
-// cutting its undo off if that is on top, and the stacks are read off. Their links are as many as a word of its length
-// needs, so that a short word clears little.
+// The normal form of a long word: the word is reduced on stacks, and the stacks are read off. Their links are as many as
+// a word of its length needs, so that a short word clears little.
 
-use input_plan::undo;
-use long_stacks::cut;
-use long_stacks::put;
-ghost use Prim.Native.Nat.{ℕ, _+_};
+ghost use Prim.Native.Nat.{ℕ};
 ghost use mathlib.Core.Path.{_≡_};
 ghost use mathlib.Core.List.{List};
 ghost use lib.ListN.{length};
 ghost use Rattle.spec.specs.Letters.{normalForm};
-ghost use Rattle.array_counts.specs.First.{FirstWith};
-ghost use Rattle.array_row.specs.Area.{StartsWith, ReadOff};
-ghost use Rattle.long_form.specs.Reducing.{Given, Reducing};
-ghost use Rattle.long_form.specs.Reading.{LetterOnTop, Readable};
+ghost use Rattle.array_row.specs.Area.{StartsWith};
+ghost use Rattle.long_reduction.specs.Reducing.{Given};
 ghost use Rattle.long_form.specs.Form.{Room};
 ghost use Rattle.long_form.specs.Forming.{Formable, Formed};
-
-// One letter more, at place p: it is cut off with its undo, or put on the stacks.
-fn step(
-    word: &[u8],
-    conflicts: &[[u16; 24]; 24],
-    under: &mut [u16],
-    link: &mut [u16],
-    tops: &mut [u16; 24],
-    blanks: &mut [u16; 24],
-    p: usize,
-)
-    requires { ⌜ ((c : List ℕ)
-        × Reducing c (now conflicts) (now word) (now under) (now link) (now tops) (now blanks) (p + 1)) ⌝ }
-    ensures { λ r. ⌜ ((c : List ℕ)
-        → Reducing c (now (conflicts .entry)) (now (word .entry))
-        (now (under .entry)) (now (link .entry)) (now (tops .entry)) (now (blanks .entry)) (p + 1)
-        → Reducing c (now (conflicts .entry)) (now (word .entry))
-        (now (under .exit)) (now (link .exit)) (now (tops .exit)) (now (blanks .exit)) p) ⌝ }
-{
-    let a = word[p];
-    if a == 0 {
-        return;
-    }
-    let k = (a % 128) as usize - 1;
-    let line = conflicts[k];
-    if blanks[k] == 0 {
-        if word[tops[k] as usize - 1] == undo(a) {
-            cut(under, link, tops, blanks, &line, k);
-            return;
-        }
-    }
-    put(under, link, tops, blanks, &line, p, k);
-}
-
-// Reduces the word: all its letters, the last first, on stacks that are empty.
-pub fn reduce(
-    word: &[u8],
-    conflicts: &[[u16; 24]; 24],
-    under: &mut [u16],
-    link: &mut [u16],
-    tops: &mut [u16; 24],
-    blanks: &mut [u16; 24],
-)
-    requires { ⌜ ((c : List ℕ)
-        × Reducing c (now conflicts) (now word) (now under) (now link) (now tops) (now blanks) (length (now word))) ⌝ }
-    ensures { λ r. ⌜ ((c : List ℕ)
-        → Reducing c (now (conflicts .entry)) (now (word .entry))
-        (now (under .entry)) (now (link .entry)) (now (tops .entry)) (now (blanks .entry))
-        (length (now (word .entry)))
-        → Reducing c (now (conflicts .entry)) (now (word .entry))
-        (now (under .exit)) (now (link .exit)) (now (tops .exit)) (now (blanks .exit)) 0) ⌝ }
-{
-    let mut i = word.len();
-    while 0 < i {
-        i -= 1;
-        step(word, conflicts, under, link, tops, blanks, i);
-    }
-}
-
-// The index of the first stack with a letter on top, or 24 where there is none.
-fn ready(blanks: &[u16; 24]) -> usize
-    ensures { λ r. ⌜ FirstWith (LetterOnTop (now (blanks .entry))) r ⌝ }
-{
-    let mut i = 0;
-    while i < 24 {
-        if blanks[i] == 0 {
-            return i;
-        }
-        i += 1;
-    }
-    24
-}
-
-// Reads the stacks off into the area: each time the top of the first stack that has a letter on top.
-fn read_off(
-    word: &[u8],
-    conflicts: &[[u16; 24]; 24],
-    under: &[u16],
-    link: &[u16],
-    tops: &mut [u16; 24],
-    blanks: &mut [u16; 24],
-    area: &mut [u8],
-) -> usize
-    requires { ⌜ ((c : List ℕ) × (x : List ℕ)
-        × Readable c (now conflicts) (now word) (now under) (now link) (now tops) (now blanks) x (now area)) ⌝ }
-    ensures { λ r. ⌜ ((c x : List ℕ)
-        → Readable c (now (conflicts .entry)) (now (word .entry)) (now (under .entry)) (now (link .entry))
-        (now (tops .entry)) (now (blanks .entry)) x (now (area .entry))
-        → ReadOff c x (now (area .entry)) (now (area .exit)) r) ⌝ }
-{
-    let mut l = 0;
-    let mut k = ready(blanks);
-    while k < 24 {
-        area[l] = word[tops[k] as usize - 1];
-        l += 1;
-        let line = conflicts[k];
-        cut(under, link, tops, blanks, &line, k);
-        k = ready(blanks);
-    }
-    l
-}
+use long_read::read_off;
+use long_reduction::reduce;
 
 // Writes the normal form of the word into the area and gives its length. The two rows are worked in; what they hold
 // before does not matter.
-pub fn normal_form(
+fn normal_form(
     word: &[u8],
     conflicts: &[[u16; 24]; 24],
     under: &mut [u16],

@@ -9,7 +9,7 @@ use Rattle.spec_laws.specs.PlanLaws.{passing-append}
 use Rattle.array_row.specs.Area.{StartsWith}
 use Rattle.spec.specs.Letters.{normalForm}
 use Rattle.spec_laws.specs.LettersLaws.{letters-length}
-use Rattle.long_form.specs.Reducing.{Given}
+use Rattle.long_reduction.specs.Reducing.{Given}
 use Rattle.long_form.specs.Forming.{Formable}
 use Rattle.array_row.specs.Row.{Appended}
 use Rattle.array_row.specs.RowLaws.{appended-length, appended-take}

@@ -1,5 +1,5 @@
 -- `long_form::normal_form` meets its contract: the stacks of the reduced word, read off. Assumes nothing.
-use Rattle.long_form.specs.ReducingLaws.{reducing-start}
+use Rattle.long_reduction.specs.ReducingLaws.{reducing-start}
 use Rattle.long_form.specs.FormLaws.{form-readable, form-written}
 use borrow.Author.Needs.{needs}
 use Rattle.long_form.proofs.normal_form.Statement.{statement}

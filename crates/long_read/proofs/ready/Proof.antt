@@ -1,11 +1,11 @@
--- `long_form::ready` meets its contract: no stack below i has a letter on top. Assumes nothing.
+-- `long_read::ready` meets its contract: no stack below i has a letter on top. Assumes nothing.
 use Prim.Native.Nat.{_-_}
 use native.Mathlib.Omega.{arith}
 use Rattle.array_counts.specs.First.{NoneBelow}
 use Rattle.array_counts.specs.FirstLaws.{none-start, none-again, first-found, first-none}
-use Rattle.long_form.specs.Reading.{LetterOnTop}
-use Rattle.long_form.proofs.ready.Statement.{statement}
-use Rattle.long_form.proofs.ready.Tie as tie
+use Rattle.long_read.specs.Reading.{LetterOnTop}
+use Rattle.long_read.proofs.ready.Statement.{statement}
+use Rattle.long_read.proofs.ready.Tie as tie
 
 abbrev Inv-loop : tie.InvT-loop
 Inv-loop blanks i₀ i = NoneBelow (LetterOnTop blanks) i

@@ -1,10 +1,10 @@
--- `long_form::reduce` meets its contract. The loop's invariant: the stacks are those of the word from place i on,
+-- `long_reduction::reduce` meets its contract. The loop's invariant: the stacks are those of the word from place i on,
 -- reduced. Assumes nothing.
 use native.Mathlib.Omega.{arith}
 use mathlib.Core.Path.{refl}
-use Rattle.long_form.specs.ReducingLaws.{Backwards, backwards-some, backwards-again, backwards-end}
-use Rattle.long_form.proofs.reduce.Statement.{statement}
-use Rattle.long_form.proofs.reduce.Tie as tie
+use Rattle.long_reduction.specs.ReducingLaws.{Backwards, backwards-some, backwards-again, backwards-end}
+use Rattle.long_reduction.proofs.reduce.Statement.{statement}
+use Rattle.long_reduction.proofs.reduce.Tie as tie
 
 abbrev Inv-loop : tie.InvT-loop
 Inv-loop word conflicts under₀ link₀ tops₀ blanks₀ i₀ under link tops blanks i =

@@ -24,7 +24,7 @@ use Rattle.long_stacks.specs.Runs.{bottom}
 use Rattle.long_stacks.specs.Moves.{Puttable, Put, Cuttable, Cut}
 use Rattle.long_stacks.specs.StacksLaws.{Lined, stacks-topped, stacks-first, first-stacks, stacks-cuttable, stacks-cut}
 use Rattle.long_stacks.specs.StacksLaws.{stacks-puttable, stacks-put, stacks-earlier}
-use Rattle.long_form.specs.Reducing.{Given, Reducing}
+use Rattle.long_reduction.specs.Reducing.{Given, Reducing}
 
 -- no letter is read, and every stack is empty
 pub reducing-start : {c : List ℕ} {conflicts : List (List ℕ)} {word under link : List ℕ} → Given c conflicts word

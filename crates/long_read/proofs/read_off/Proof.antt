@@ -1,13 +1,13 @@
--- `long_form::read_off` meets its contract. The loop's invariant: l letters are written, and the stacks are those of
+-- `long_read::read_off` meets its contract. The loop's invariant: l letters are written, and the stacks are those of
 -- the word that is left. The measure is what is left of the area. Assumes nothing.
 use Prim.Native.Nat.{_-_}
 use native.Mathlib.Omega.{arith}
 use lib.ListN.{length}
 use borrow.Author.Needs.{needs}
-use Rattle.long_form.specs.ReadLaws.{Underway, underway-start, underway-end, underway-long, underway-again}
-use Rattle.long_form.specs.ReadLaws.{underway-inside, underway-fits, underway-cuttable}
-use Rattle.long_form.proofs.read_off.Statement.{statement}
-use Rattle.long_form.proofs.read_off.Tie as tie
+use Rattle.long_read.specs.ReadLaws.{Underway, underway-start, underway-end, underway-long, underway-again}
+use Rattle.long_read.specs.ReadLaws.{underway-inside, underway-fits, underway-cuttable}
+use Rattle.long_read.proofs.read_off.Statement.{statement}
+use Rattle.long_read.proofs.read_off.Tie as tie
 
 abbrev Inv-loop : tie.InvT-loop
 Inv-loop word conflicts under link tops₀ blanks₀ area₀ l₀ k₀ tops blanks area l k =

@@ -11,7 +11,7 @@ use Rattle.array_row.specs.ReadOffLaws.{Shows, Reading, reading-start, reading-
 use Rattle.long_stacks.specs.Runs.{Stacks}
 use Rattle.long_stacks.specs.Moves.{Cuttable, Cut}
 use Rattle.long_stacks.specs.StacksLaws.{Lined, stacks-topped, stacks-first, first-stacks, stacks-cuttable, stacks-cut}
-use Rattle.long_form.specs.Reading.{LetterOnTop, Readable}
+use Rattle.long_read.specs.Reading.{LetterOnTop, Readable}
 
 -- the letter on top of the stack of command k + 1
 abbrev pub topAt : List ℕ → List ℕ → ℕ → ℕ

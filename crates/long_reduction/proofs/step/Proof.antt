@@ -1,14 +1,14 @@
--- `long_form::step` meets its contract: a filler, a letter that is cut off with its undo, a letter that is put on.
+-- `long_reduction::step` meets its contract: a filler, a letter that is cut off with its undo, a letter that is put on.
 -- Assumes nothing.
 use native.Mathlib.Omega.{arith}
 use mathlib.Core.Path.{refl, sym, _∙_}
 use mathlib.Core.Logic.{⊎-elim}
 use borrow.Author.Needs.{needs}
-use Rattle.long_form.specs.ReducingLaws.{reducing-within, reducing-filler, reducing-lettered, reducing-lined}
-use Rattle.long_form.specs.ReducingLaws.{reducing-inside, reducing-puttable, reducing-put}
-use Rattle.long_form.specs.ReducingLaws.{reducing-cuttable, reducing-cut}
-use Rattle.long_form.proofs.step.Statement.{statement}
-use Rattle.long_form.proofs.step.Tie as tie
+use Rattle.long_reduction.specs.ReducingLaws.{reducing-within, reducing-filler, reducing-lettered, reducing-lined}
+use Rattle.long_reduction.specs.ReducingLaws.{reducing-inside, reducing-puttable, reducing-put}
+use Rattle.long_reduction.specs.ReducingLaws.{reducing-cuttable, reducing-cut}
+use Rattle.long_reduction.proofs.step.Statement.{statement}
+use Rattle.long_reduction.proofs.step.Tie as tie
 
 -- places on the way
 
