@@ -12,8 +12,8 @@ use Rattle.input_catalogue.specs.declared.Checked.{Checked}
 use Rattle.input_catalogue.specs.declared.Checked.the-variants.{Refused, Passed}
 use Rattle.array_row.specs.AreaLaws.{starts-length, starts-area}
 use Rattle.spec.specs.Letters.{normalForm}
-use Rattle.call_lead_in_check.specs.declared.Both.{Both}
-use Rattle.call_lead_in_check.specs.Checking.{Checkable, CheckedIn}
+use Rattle.long_equal.specs.declared.Both.{Both}
+use Rattle.long_equal.specs.Comparing.{Comparable, Compared}
 use Rattle.input_checks.specs.Entry.{ThreePlans, threeLines, SameRefusal}
 use Rattle.input_checks.specs.EntryLaws.{entered-none, entered-some}
 use Rattle.spec.specs.Answers.{CheckedLeadIn}
@@ -59,8 +59,8 @@ module _ {c v w : List ℕ} (u : List ℕ) {rows : List (List ℕ)} {r : Checked
           (ap refused k)
 
       module _ (i : length u + length w ≤ length area1) where
-        pub check-checkable : Checkable c rows v w u area0 area1
-        check-checkable =
+        pub check-comparable : Comparable c rows v w u area0 area1
+        check-comparable =
             let (p, q) = d .passed (entered-none d e) in
             record {
               table = p .0 .table;
@@ -76,7 +76,7 @@ module _ {c v w : List ℕ} (u : List ℕ) {rows : List (List ℕ)} {r : Checked
             }
 
         pub check-told : {b : Both} {after0 after1 : List ℕ} {t : Answer CheckedLeadIn}
-            → CheckedIn c v w u area0 after0 area1 after1 b
+            → Compared c v w u area0 after0 area1 after1 b
             → t ≡ given (record { yes = b .same; vu = b .vu; uw = b .uw })
             → CheckOutcome c v w u area0 area1 t after0 after1
         check-told {b} {after0} {after1} k j =

@@ -1,3 +1,1 @@
-pub mod Checking
-pub mod CheckingLaws
 pub mod LeadCheckLaws

@@ -1,8 +1,8 @@
 -- `call_lead_in_check::lead_in_check` meets its contract: a line refuses, or v·u and u·w are compared. Assumes nothing.
 use Prim.Native.Nat.{ℕ}
 use mathlib.Core.List.{List}
-use Rattle.call_lead_in_check.specs.Checking.{Checkable}
-use Rattle.call_lead_in_check.specs.LeadCheckLaws.{check-refused, check-small0, check-small1, check-checkable}
+use Rattle.long_equal.specs.Comparing.{Comparable}
+use Rattle.call_lead_in_check.specs.LeadCheckLaws.{check-refused, check-small0, check-small1, check-comparable}
 use Rattle.call_lead_in_check.specs.LeadCheckLaws.{check-told}
 use borrow.Author.Needs.{needs}
 use Rattle.call_lead_in_check.proofs.lead_in_check.Statement.{statement}
@@ -10,8 +10,8 @@ use Rattle.call_lead_in_check.proofs.lead_in_check.Tie as tie
 
 -- places on the way
 
-abbrev after-check : tie.After-lead-in → tie.After-check
-after-check c = c .before .before .before .before .before
+abbrev after-compare : tie.After-lead-in → tie.After-compare
+after-compare c = c .before .before .before .before .before
 
 -- the three clauses of the contract
 clauses : {A B C : Type 0} → A × B × C → A × (B × C)
@@ -38,10 +38,10 @@ module _ (j : tie.Else2) where
   abbrev cat : List ℕ
   cat = start checks .args .catalogue .now
 
-  checkable : Checkable cat (checks .three-plans .last .1 .1 .1 .1 .0) (start checks .args .v .now)
+  comparable : Comparable cat (checks .three-plans .last .1 .1 .1 .1 .0) (start checks .args .v .now)
       (start checks .args .w .now) (u checks) (area0 checks) (area1 checks)
-  checkable =
-      check-checkable (u checks) (checks .three-plans .ensures) (area0 checks) (area1 checks)
+  comparable =
+      check-comparable (u checks) (checks .three-plans .ensures) (area0 checks) (area1 checks)
       (j .before .before .enum-told .given .1) (j .before .if1 .left) (j .if2 .left)
 
 returns : tie.Need-returns
@@ -64,18 +64,18 @@ returns-3 c =
     clauses (check-small1 (u e) (e .three-plans .ensures) (area0 e) (area1 e) (i .before .enum-told .given .1)
     (i .if1 .left) (c .before .if2 .taken) (c .small-area2 .ensures))
 
-check-requires : tie.Need-check-requires
-check-requires c κs =
+compare-requires : tie.Need-compare-requires
+compare-requires c κs =
     let j = c .before .before .before in
-    (cat j, checkable j)
+    (cat j, comparable j)
 
 returns-4 : tie.Need-returns-4
 returns-4 c =
-    let k = after-check c in
+    let k = after-compare c in
     let j = k .before .before .before .before in
     let e = checks j in
     clauses (check-told (u e) (e .three-plans .ensures) (area0 e) (area1 e) (j .before .before .enum-told .given .1)
-    (j .before .if1 .left) (j .if2 .left) (k .check .ensures (cat j) (checkable j)) (c .lead-in .ensures))
+    (j .before .if1 .left) (j .if2 .left) (k .compare .ensures (cat j) (comparable j)) (c .lead-in .ensures))
 
 pub lead-in-check-spec : {M : Type 1} → statement M
 lead-in-check-spec =
@@ -93,7 +93,7 @@ lead-in-check-spec =
     (λ c. search needs)
     (λ c κs. search needs)
     returns-3
-    check-requires
+    compare-requires
     (λ c κs. search needs)
     (λ c. search needs)
     (λ c. search needs)

@@ -1,4 +1,4 @@
--- Laws of the lead-in check: both products can be made, and what the areas begin with.
+-- Both products can be made, and what the areas then begin with.
 use Prim.Native.Nat.{ℕ, _+_, _≤_}
 use mathlib.Core.Path.{_≡_}
 use mathlib.Core.Bool.{Bool, true}
@@ -10,12 +10,12 @@ use Rattle.array_row.specs.Area.{StartsWith}
 use Rattle.array_row.specs.AreaLaws.{starts-take}
 use Rattle.spec.specs.Letters.{normalForm}
 use Rattle.long_product.specs.Product.{Factors}
-use Rattle.call_lead_in_check.specs.Checking.{Checkable, CheckedIn}
+use Rattle.long_equal.specs.Comparing.{Comparable, Compared}
 
 module _ {c : List ℕ} {conflicts : List (List ℕ)} {v w u before0 before1 : List ℕ}
-    (k : Checkable c conflicts v w u before0 before1) where
-  pub checkable-first : Factors c conflicts v u before0
-  checkable-first = record {
+    (k : Comparable c conflicts v w u before0 before1) where
+  pub comparable-first : Factors c conflicts v u before0
+  comparable-first = record {
     table = k .table;
     few = k .few;
     left = k .passing-v;
@@ -24,8 +24,8 @@ module _ {c : List ℕ} {conflicts : List (List ℕ)} {v w u before0 before1 : L
     fits = k .fits0;
   }
 
-  pub checkable-second : Factors c conflicts u w before1
-  checkable-second = record {
+  pub comparable-second : Factors c conflicts u w before1
+  comparable-second = record {
     table = k .table;
     few = k .few;
     left = k .passing-u;
@@ -35,11 +35,11 @@ module _ {c : List ℕ} {conflicts : List (List ℕ)} {v w u before0 before1 : L
   }
 
 -- the starts of the areas are the same exactly if the normal forms are
-pub checked-in : {c v w u before0 after0 before1 after1 : List ℕ} {same : Bool} {vu uw : ℕ}
+pub compared : {c v w u before0 after0 before1 after1 : List ℕ} {same : Bool} {vu uw : ℕ}
     → StartsWith (normalForm c (v ++ u)) before0 after0 vu → StartsWith (normalForm c (u ++ w)) before1 after1 uw
     → (same ≡ true) ↔ (take vu after0 ≡ take uw after1)
-    → CheckedIn c v w u before0 after0 before1 after1 (record { same = same; vu = vu; uw = uw })
-checked-in x y s = record {
+    → Compared c v w u before0 after0 before1 after1 (record { same = same; vu = vu; uw = uw })
+compared x y s = record {
   same = rw (starts-take x, starts-take y) at s;
   written0 = x;
   written1 = y;

@@ -1,12 +1,12 @@
--- `call_lead_in_check::check` meets its contract: both products, and the comparison of the starts of the areas. Assumes
+-- `long_equal::compare` meets its contract: both products, and the comparison of the starts of the areas. Assumes
 -- nothing.
 use mathlib.Core.Path.{sym}
 use borrow.Author.Needs.{needs}
 use lib.Seq.{length-take-le}
 use Rattle.array_row.specs.AreaLaws.{starts-fits}
-use Rattle.call_lead_in_check.specs.CheckingLaws.{checkable-first, checkable-second, checked-in}
-use Rattle.call_lead_in_check.proofs.check.Statement.{statement}
-use Rattle.call_lead_in_check.proofs.check.Tie as tie
+use Rattle.long_equal.specs.ComparingLaws.{comparable-first, comparable-second, compared}
+use Rattle.long_equal.proofs.compare.Statement.{statement}
+use Rattle.long_equal.proofs.compare.Tie as tie
 
 -- the places on the way: the area lent for the first product, that product written, and both
 abbrev lent : tie.After-product-arg → tie.Start
@@ -50,11 +50,11 @@ returns : tie.Need-returns
 returns c =
     let d = both (c .before .before .before) in
     λ k p.
-    checked-in (first d .product .ensures k (checkable-first p)) (d .product2 .ensures k (checkable-second p))
+    compared (first d .product .ensures k (comparable-first p)) (d .product2 .ensures k (comparable-second p))
     (c .same-bytes .ensures)
 
-pub check-spec : {M : Type 1} → statement M
-check-spec =
+pub compare-spec : {M : Type 1} → statement M
+compare-spec =
     tie.close
     (tie.spec
     product-requires

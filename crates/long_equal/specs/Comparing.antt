@@ -1,5 +1,4 @@
--- The lead-in check of plans that have passed their checks: what a product of two words needs and what the whole check
--- needs, and what is told and written at the end.
+-- The products v·u and u·w compared: what is asked of plans and areas, and what is told and written at the end.
 use Prim.Native.Nat.{ℕ, _+_, _≤_}
 use mathlib.Core.Path.{_≡_}
 use mathlib.Core.Bool.{true}
@@ -11,10 +10,10 @@ use Rattle.input_chains.specs.Conflicts.{Conflicts}
 use Rattle.array_row.specs.Area.{StartsWith}
 use Rattle.spec.specs.Plan.{Passing}
 use Rattle.spec.specs.Letters.{normalForm}
-use Rattle.call_lead_in_check.specs.declared.Both.{Both}
+use Rattle.long_equal.specs.declared.Both.{Both}
 
 -- plans v and w and a lead-in u that have passed lines 7 and 8, and areas with room for v·u and u·w
-pub record Checkable (c : List ℕ) (conflicts : List (List ℕ)) (v w u area0 area1 : List ℕ) : Type 0 where
+pub record Comparable (c : List ℕ) (conflicts : List (List ℕ)) (v w u area0 area1 : List ℕ) : Type 0 where
   pub table : Conflicts c conflicts
   pub few : commands c ≤ 24
   pub passing-v : Passing (commands c) v
@@ -27,7 +26,7 @@ pub record Checkable (c : List ℕ) (conflicts : List (List ℕ)) (v w u area0 a
   pub fits1 : length u + length w ≤ length area1
 
 -- the areas now begin with the normal forms of v·u and u·w, and `same` tells whether these are equal
-pub record CheckedIn (c v w u before0 after0 before1 after1 : List ℕ) (r : Both) : Type 0 where
+pub record Compared (c v w u before0 after0 before1 after1 : List ℕ) (r : Both) : Type 0 where
   pub same : (r .same ≡ true) ↔ (normalForm c (v ++ u) ≡ normalForm c (u ++ w))
   pub written0 : StartsWith (normalForm c (v ++ u)) before0 after0 (r .vu)
   pub written1 : StartsWith (normalForm c (u ++ w)) before1 after1 (r .uw)

@@ -1,0 +1,3 @@
+-- The comparison of two products: what it asks and tells.
+pub mod Comparing
+pub mod ComparingLaws
