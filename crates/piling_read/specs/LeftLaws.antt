@@ -1,44 +1,29 @@
 -- What is left of a piling: a row that is ready shows a letter that can come first, and a letter takes one bead off
 -- each row whose command conflicts with it.
 use Prim.Native.Nat.{ℕ, suc, _+_, _-_, _<_, _≤_}
-use mathlib.Core.Path.{_≡_, refl, sym, _∙_, ap, subst}
-use mathlib.Core.Bool.{Bool, true, false}
+use mathlib.Core.Path.{_≡_, sym, _∙_, ap, subst}
 use mathlib.Core.List.{List, [], _∷_, head-eq-of-cons-eq}
 use native.Mathlib.Omega.{arith}
 use lib.ListN.{length, getD, take, drop, length-append}
-use lib.Dec.{eqb}
 use lib.Seq.{slice, slice-cons, length-slice, drop-drop, drop-at}
 use Rattle.theory_words.specs.All.{all-pick}
 use Rattle.theory_words.specs.Trace.{Pick, First}
-use Rattle.theory_words.specs.Stack.{mark, mark-step, proj}
+use Rattle.theory_words.specs.Stack.{mark, proj}
 use Rattle.theory_words.specs.StackLaws.{proj-pick, proj-first, proj-front}
-use Rattle.spec.specs.Conflict.{conflict}
-use Rattle.input_chains.specs.Conflicts.{bit, Conflicts}
-use Rattle.spec.specs.AlphabetLaws.{conflict-sym}
+use Rattle.input_chains.specs.Conflicts.{Conflicts}
 use Rattle.spec.specs.Byte.{commandOf}
 use Rattle.spec.specs.Letters.{alphabet}
 use Rattle.input_plan.specs.Lettered.{Lettered}
 use Rattle.input_plan.specs.LetteredLaws.{lettered-filler}
 use Rattle.array_counts.specs.Heights.{Both, Changed}
 use Rattle.array_row.specs.ReadOffLaws.{Shows}
+use Rattle.piling_stacks.specs.MeetsLaws.{meets-length, meets-line}
 use Rattle.piling_read.specs.Reading.{lowest, beadsLeft, Ready, Left}
-
--- a letter puts one bead on a stack whose command conflicts with it
-mark-count : (c : List ℕ) (k b : ℕ) → length (mark (alphabet c) 0 k b) ≡ bit (conflict c k (commandOf b))
-unfolding mark mark-step
-mark-count c k b = go (conflict c k (commandOf b)) (eqb (commandOf b) k)
-  where
-    go : (t o : Bool) → length (mark-step (alphabet c) 0 t o b) ≡ bit t
-    go false o = refl
-    go true false = refl
-    go true true = refl
 
 -- how many beads a letter of command k + 1 puts on row i
 pub line-count : {c : List ℕ} {table : List (List ℕ)} (k b : ℕ) → Conflicts c table → k < 24 → commandOf b ≡ k + 1
     → (i : ℕ) → i < 24 → getD (getD table k []) i 0 ≡ length (mark (alphabet c) 0 (i + 1) b)
-line-count {c} k b t l m i h =
-    t .tells k i l h ∙ ap bit (conflict-sym c (k + 1) (i + 1) ∙ ap (conflict c (i + 1)) (sym m))
-    ∙ sym (mark-count c (i + 1) b)
+line-count {c} k b t l m i h = sym (meets-length (meets-line c k b i _ m (t .tells k i l h)))
 
 module _ {rows : List (List ℕ)} {heights c at y : List ℕ} (e : Left rows heights c at y) where
   pub left-wide : (i : ℕ) → i < 24 → getD heights i 0 ≤ length (getD rows i [])
