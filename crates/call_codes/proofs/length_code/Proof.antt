@@ -34,7 +34,6 @@ length-code-spec =
     (tie.spec
     (λ c. search needs)
     cast-result
-    (λ c. search needs)
-    (λ c κs. search needs)
+    (λ c. search needs) (λ c κs. search needs)
     returns
     returns-2)

@@ -48,9 +48,7 @@ loops-code-spec =
     (λ c. search needs)
     add-result
     cast-result
-    (λ c. search needs)
-    (λ c. search needs)
-    (λ c κs. search needs)
+    (λ c. search needs) (λ c. search needs) (λ c κs. search needs)
     returns
     returns-2
     returns-3)

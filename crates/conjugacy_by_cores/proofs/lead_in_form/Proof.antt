@@ -59,13 +59,10 @@ pub lead-in-form-spec : {M : Type 1} → statement M
 lead-in-form-spec =
     tie.close
     (tie.spec
-    (λ c κs. search needs)
-    (λ c. search needs)
-    (λ c. search needs)
+    (λ c κs. search needs) (λ c. search needs) (λ c. search needs)
     returns
     slice-reshare-prefix-form
     slice-aggregate-form
     form-requires
-    (λ c. search needs)
-    (λ c. search needs)
+    (λ c. search needs) (λ c. search needs)
     returns-2)

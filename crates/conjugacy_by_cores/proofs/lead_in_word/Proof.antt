@@ -95,8 +95,7 @@ lead-in-word-spec =
     (tie.spec
     append-requires
     join-cores-requires
-    (λ c. search needs)
-    (λ c. search needs)
+    (λ c. search needs) (λ c. search needs)
     returns
     append-undone-requires
     (λ c. search needs)

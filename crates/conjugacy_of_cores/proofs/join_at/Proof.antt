@@ -34,12 +34,9 @@ pub join-at-spec : {M : Type 1} → statement M
 join-at-spec =
     tie.close
     (tie.spec
-    (λ c. search needs)
-    (λ c. search needs)
+    (λ c. search needs) (λ c. search needs)
     returns
-    (λ c. search needs)
-    (λ c. search needs)
-    (λ c. omega arith)
+    (λ c. search needs) (λ c. search needs) (λ c. omega arith)
     returns-2
     (λ c. search needs)
     join-part-requires

@@ -86,8 +86,7 @@ join-parts-spec =
     (λ c. search needs)
     same-length
     returns
-    (λ c. omega arith)
-    (λ c. omega arith)
+    (λ c. omega arith) (λ c. omega arith)
     loop-again
     same-length-2
     returns-2)

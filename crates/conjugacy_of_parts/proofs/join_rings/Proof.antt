@@ -77,9 +77,7 @@ pub join-rings-spec : {M : Type 1} → statement M
 join-rings-spec =
     tie.close
     (tie.spec
-    (λ c κs. search needs)
-    (λ c. search needs)
-    (λ c. search needs)
+    (λ c κs. search needs) (λ c. search needs) (λ c. search needs)
     returns
     slice-aggregate-append-undone
     append-undone-requires

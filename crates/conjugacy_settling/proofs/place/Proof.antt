@@ -33,16 +33,11 @@ pub place-spec : {M : Type 1} → statement M
 place-spec =
     tie.close
     (tie.spec
-    (λ c. omega arith)
-    (λ c. omega arith)
+    (λ c. omega arith) (λ c. omega arith)
     independent-requires
-    (λ c. omega arith)
-    (λ c. omega arith)
-    (λ c. search needs)
+    (λ c. omega arith) (λ c. omega arith) (λ c. search needs)
     returns
-    (λ c. omega arith)
-    (λ c. omega arith)
+    (λ c. omega arith) (λ c. omega arith)
     add-requires
-    (λ c. omega arith)
-    (λ c. search needs)
+    (λ c. omega arith) (λ c. search needs)
     returns-2)

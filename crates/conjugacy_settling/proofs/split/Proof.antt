@@ -63,8 +63,7 @@ split-spec =
     loop-holds
     (λ c. omega arith)
     place-requires
-    (λ c. omega arith)
-    (λ c. omega arith)
+    (λ c. omega arith) (λ c. omega arith)
     loop-again
     same-length
     same-length-2

@@ -102,8 +102,7 @@ pub chain-of-spec : {M : Type 1} → statement M
 chain-of-spec =
     tie.close
     (tie.spec
-    (λ c. omega arith)
-    (λ c. omega arith)
+    (λ c. omega arith) (λ c. omega arith)
     cast-h
     element-copy-out-b
     cast-b

@@ -35,7 +35,6 @@ all-pass-spec =
     loop-holds
     (λ c. omega arith)
     fault-requires
-    (λ c. omega arith)
-    (λ c. omega arith)
+    (λ c. omega arith) (λ c. omega arith)
     loop-again
     returns)

@@ -63,7 +63,5 @@ compare-spec =
     slice-aggregate-same-bytes
     slice-reshare-prefix-same-bytes-2
     slice-aggregate-same-bytes-2
-    (λ c κs. search needs)
-    (λ c. search needs)
-    (λ c. search needs)
+    (λ c κs. search needs) (λ c. search needs) (λ c. search needs)
     returns)

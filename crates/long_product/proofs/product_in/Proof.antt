@@ -40,6 +40,5 @@ product-in-spec =
     slice-reshare-prefix-form
     slice-aggregate-form
     form-requires
-    (λ c. search needs)
-    (λ c. search needs)
+    (λ c. search needs) (λ c. search needs)
     returns)

@@ -76,15 +76,13 @@ read-off-spec =
     μ-loop
     (λ c κs. search needs)
     loop-holds
-    (λ c. omega arith)
-    (λ c. omega arith)
+    (λ c. omega arith) (λ c. omega arith)
     cast-area
     sub-area
     shared-slice-read-area
     slice-write-area
     add-l
-    (λ c. omega arith)
-    (λ c. omega arith)
+    (λ c. omega arith) (λ c. omega arith)
     cut-requires
     (λ c κs. search needs)
     loop-less

@@ -131,10 +131,8 @@ step-spec =
     shared-slice-read-if3
     (λ c κs. search needs)
     cut-requires
-    (λ c. search needs)
-    (λ c. search needs)
+    (λ c. search needs) (λ c. search needs)
     returns-2
     put-requires
-    (λ c. search needs)
-    (λ c. search needs)
+    (λ c. search needs) (λ c. search needs)
     returns-3)

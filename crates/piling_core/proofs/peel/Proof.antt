@@ -99,16 +99,13 @@ peel-spec =
     μ-loop
     pair-requires
     loop-holds
-    (λ c. omega arith)
-    (λ c. omega arith)
+    (λ c. omega arith) (λ c. omega arith)
     cast-lead
-    (λ c. omega arith)
-    (λ c. omega arith)
+    (λ c. omega arith) (λ c. omega arith)
     index-2-lead
     slice-write-lead
     add-l
-    (λ c. omega arith)
-    (λ c. omega arith)
+    (λ c. omega arith) (λ c. omega arith)
     narrow-requires
     pair-requires-2
     loop-less

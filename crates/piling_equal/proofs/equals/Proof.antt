@@ -58,8 +58,7 @@ equals-spec =
     μ-loop
     returns
     loop-holds
-    (λ c. omega arith)
-    (λ c. omega arith)
+    (λ c. omega arith) (λ c. omega arith)
     undo-byte-requires
     returns-2
     (λ c. omega arith)

@@ -79,7 +79,6 @@ pile-spec =
     mul-line
     element-copy-out-line
     push-requires
-    (λ c. omega arith)
-    (λ c. omega arith)
+    (λ c. omega arith) (λ c. omega arith)
     loop-again
     returns)
