@@ -4,3 +4,4 @@ pub mod First
 pub mod FirstLaws
 pub mod Heights
 pub mod HeightsLaws
+pub mod MeetsLaws

@@ -1,5 +1,5 @@
 // What is done with 24 numbers at a time, one for each command: heights of stacks, or counts. Its specs also say what
-// the first of 24 with a property is.
+// the first of 24 with a property is, and how many beads a letter puts on each stack.
 
 ghost use Prim.Native.Nat.{_+_, _-_, _≤_, _<_};
 ghost use mathlib.Core.Path.{_≡_};

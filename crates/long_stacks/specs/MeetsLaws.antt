@@ -7,7 +7,7 @@ use mathlib.Core.Path.{_≡_, refl, _∙_, ap}
 use mathlib.Core.List.{List, _∷_, _++_, tail-eq-of-cons-eq}
 use lib.ListN.{length, getD}
 use lib.Seq.{getD-set-same, getD-set-other}
-use Rattle.piling_stacks.specs.MeetsLaws.{Meets, aside, own, other}
+use Rattle.array_counts.specs.MeetsLaws.{Meets, aside, own, other}
 use Rattle.long_stacks.specs.Runs.{Runs, bead}
 use Rattle.long_stacks.specs.RunsLaws.{Topped, runs-blank, runs-unblank, runs-topped, runs-earlier, runs-write}
 use Rattle.long_stacks.specs.Moves.{Put, Cut}

@@ -21,7 +21,7 @@ use Rattle.input_plan.specs.LetteredLaws.{lettered-filler}
 use Rattle.long_stacks.specs.Runs.{Stacks}
 use Rattle.long_stacks.specs.RunsLaws.{Topped, runs-letter, runs-topped, runs-count, runs-earlier}
 use Rattle.long_stacks.specs.Moves.{Puttable, Put, Cuttable, Cut}
-use Rattle.piling_stacks.specs.MeetsLaws.{Meets, meets-line}
+use Rattle.array_counts.specs.MeetsLaws.{Meets, meets-line}
 use Rattle.long_stacks.specs.MeetsLaws.{meets-put, meets-cut, meets-low}
 
 -- line tells which commands conflict with command k + 1

@@ -17,7 +17,7 @@ use Rattle.input_plan.specs.Lettered.{Lettered}
 use Rattle.input_plan.specs.LetteredLaws.{lettered-filler}
 use Rattle.array_counts.specs.Heights.{Both, Changed}
 use Rattle.array_row.specs.ReadOffLaws.{Shows}
-use Rattle.piling_stacks.specs.MeetsLaws.{meets-length, meets-line}
+use Rattle.array_counts.specs.MeetsLaws.{meets-length, meets-line}
 use Rattle.piling_read.specs.Reading.{lowest, beadsLeft, Ready, Left}
 
 -- how many beads a letter of command k + 1 puts on row i

@@ -9,7 +9,7 @@ use mathlib.Core.List.{List, [], _∷_, _++_, append-nil}
 use lib.ListN.{length, getD, take, set, length-set, length-append, length-take}
 use lib.Seq.{getD-set-same, getD-set-other, set-getD, take-set-le, take-suc-set}
 use lib.Seq.{take-suc, take-take, take-at, getD-take, getD-at}
-use Rattle.piling_stacks.specs.MeetsLaws.{Meets, aside, own, other}
+use Rattle.array_counts.specs.MeetsLaws.{Meets, aside, own, other}
 
 -- the stack s, bottom first, stands in the row, and nothing above it
 pub record Beads (row : List ℕ) (h : ℕ) (s : List ℕ) : Type 0 where

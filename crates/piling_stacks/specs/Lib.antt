@@ -2,7 +2,6 @@ pub mod Piling
 pub mod Push
 pub mod Pile
 pub mod Blank
-pub mod MeetsLaws
 pub mod BeadsLaws
 pub mod PilingLaws
 pub mod BlankLaws

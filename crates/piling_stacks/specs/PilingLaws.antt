@@ -16,7 +16,7 @@ use Rattle.spec.specs.Letters.{alphabet}
 use Rattle.piling_stacks.specs.Piling.{Piled, Counted}
 use Rattle.array_counts.specs.Heights.{Both, Changed}
 use Rattle.piling_stacks.specs.BeadsLaws.{Beads, written, beads-fit, beads-split, beads-top, meets-add, meets-off}
-use Rattle.piling_stacks.specs.MeetsLaws.{Meets, meets-line, meets-length, meets-one}
+use Rattle.array_counts.specs.MeetsLaws.{Meets, meets-line, meets-length, meets-one}
 use Rattle.piling_stacks.specs.Push.{Facing, Ready, Cancelled}
 
 -- the stack of command i + 1, bottom first
