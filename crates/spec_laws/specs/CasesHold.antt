@@ -3,7 +3,7 @@
 use mathlib.Core.Path.{refl}
 use native.Mathlib.Decide.{ℕ-discrete}
 use Rattle.spec.specs.Table.{firstOf}
-use Rattle.theory_words.specs.Alike.{alike?}
+use Rattle.theory_words.specs.Alike.{agree-step, agree}
 use Rattle.theory_words.specs.Reduce.{without-step, without, act-step, act, reduce}
 use Rattle.theory_words.specs.Normal.{meets, firsts, least-step, least, rest, lex-step, lex, nf}
 use Rattle.theory_conjugacy.specs.Core as Core
@@ -13,7 +13,7 @@ use Rattle.theory_conjugacy.specs.Part.{merge, merge-row, merge-all, labels, la
 use Rattle.theory_conjugacy.specs.Part as Part
 use Rattle.theory_words.specs.Filter.{keepIf, filter}
 use Rattle.theory_conjugacy.specs.Settle.{hit, put, split, settled-step, settled, ring}
-use Rattle.theory_conjugacy.specs.Rotation.{agree-step, agree, search-step, search, rotation}
+use Rattle.theory_conjugacy.specs.Rotation.{search-step, search, rotation}
 use Rattle.theory_conjugacy.specs.Decision.{found?, settled-ring, part-ring, rotated?, parts-joined?}
 use Rattle.theory_conjugacy.specs.Decision.{cores-joined?, joined?}
 use Rattle.spec.specs.Catalogue.{ends, follow, stands}
@@ -33,7 +33,7 @@ unfolding firstOf without-step without act-step act reduce meets firsts least-st
     lex-step lex nf ends follow stands conflict isCommand passes undone letters normalForm ℕ-discrete
     Core.undone without-last between pair-step pair peels-step peels core coreForm insert-step insert
     relabel-step relabel merge-step Part.commands merge merge-row merge-all labels label apexes share part hit
-    put split settled-step settled ring agree-step agree search-step search rotation alike? found? settled-ring
+    put split settled-step settled ring agree-step agree search-step search rotation found? settled-ring
     part-ring rotated? parts-joined? cores-joined? joined? keepIf filter
 starred-hold =
     (refl, refl)

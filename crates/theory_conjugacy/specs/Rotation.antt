@@ -1,10 +1,10 @@
 -- Rotations of a word, and the search for the first starting place at which one word, read round, is another.
 use Prim.Native.Nat.{ℕ, zero, suc, max}
-use mathlib.Core.Path.{_≡_}
 use mathlib.Core.Bool.{Bool, true, false}
 use mathlib.Core.List.{List, [], _∷_, _++_}
 use mathlib.Core.Option.{Option, none, some}
 use lib.ListN.{length, take, drop}
+use Rattle.theory_words.specs.Alike.{agree}
 use Rattle.theory_words.specs.Alphabet.{Alphabet, Word}
 
 -- r read round, from place i on
@@ -14,17 +14,6 @@ rotate i r = drop i r ++ take i r
 module _ (Γ : Alphabet) where
   open Alphabet Γ using (Letter, same)
 
-  unfoldable pub agree-step : {a b : Letter} → Dec (a ≡ b) → Bool → Bool
-  agree-step (yes e) t = t
-  agree-step (no n) t = false
-
-  -- are two words the same
-  unfoldable pub agree : Word Γ → Word Γ → Bool
-  agree [] [] = true
-  agree [] (b ∷ y) = false
-  agree (a ∷ x) [] = false
-  agree (a ∷ x) (b ∷ y) = agree-step (same a b) (agree x y)
-
   unfoldable pub search-step : Bool → ℕ → (ℕ → Option ℕ) → Option ℕ
   search-step true i again = some i
   search-step false i again = again (suc i)
@@ -32,7 +21,7 @@ module _ (Γ : Alphabet) where
   -- the first of n starting places from i on at which r is t
   unfoldable pub search : Word Γ → Word Γ → ℕ → ℕ → Option ℕ
   search r t zero i = none
-  search r t (suc n) i = search-step (agree (rotate i r) t) i (search r t n)
+  search r t (suc n) i = search-step (agree same (rotate i r) t) i (search r t n)
 
   -- the first starting place at which r is t; the empty word has the one place 0
   unfoldable pub rotation : Word Γ → Word Γ → Option ℕ

@@ -2,17 +2,19 @@
 use Prim.Native.Nat.{ℕ, zero, suc, _+_, _≤_, _<_, max}
 use native.Mathlib.Decide.{decLt}
 use native.Mathlib.Omega.{arith}
-use mathlib.Core.Path.{_≡_, refl, sym, _∙_, ap, subst}
-use mathlib.Core.Bool.{Bool, true, false, true≢false}
+use mathlib.Core.Path.{_≡_, refl, sym, _∙_, subst}
+use mathlib.Core.Bool.{Bool, true, false}
 use mathlib.Core.List.{[], _∷_, _++_, append-nil, append-assoc}
 use mathlib.Core.Option.{none, some, Option·some-injective, Option·none-ne-some, Option·some-ne-none}
 use lib.ListN.{length, take, drop, take-append-drop, length-append}
 use lib.Seq.{take-append-le, drop-append-le, take-length, drop-length}
+use Rattle.theory_words.specs.Alike.{agree}
+use Rattle.theory_words.specs.AlikeLaws.{agree-true, agree-false}
 use Rattle.theory_words.specs.Alphabet.{Alphabet, Word}
 use Rattle.theory_words.specs.Group as Group
 use Rattle.theory_words.specs.Group.{conj, then}
 use Rattle.theory_words.specs.GroupLaws.{≈-of-≡, ≈-after, conj-of}
-use Rattle.theory_conjugacy.specs.Rotation.{rotate, agree, agree-step, search, search-step, rotation}
+use Rattle.theory_conjugacy.specs.Rotation.{rotate, search, search-step, rotation}
 use Rattle.theory_conjugacy.specs.Rotation.{Rotated, stay, roll}
 
 module _ (Γ : Alphabet) where
@@ -82,29 +84,6 @@ module _ (Γ : Alphabet) where
 
   -- the search
 
-  pub agree-true : (x y : Word Γ) → agree Γ x y ≡ true → x ≡ y
-  unfolding agree agree-step
-  agree-true [] [] e = refl
-  agree-true [] (b ∷ y) e = absurd (true≢false (sym e))
-  agree-true (a ∷ x) [] e = absurd (true≢false (sym e))
-  agree-true (a ∷ x) (b ∷ y) e = go (Γ .same a b) e (agree-true x y)
-    where
-      go : (d : Dec (a ≡ b)) → agree-step Γ d (agree Γ x y) ≡ true → (agree Γ x y ≡ true → x ≡ y) → a ∷ x ≡ b ∷ y
-      go (yes s) e ih = let t : x ≡ y = ih e in cc
-      go (no n) e ih = absurd (true≢false (sym e))
-
-  pub agree-refl : (x : Word Γ) → agree Γ x x ≡ true
-  unfolding agree agree-step
-  agree-refl [] = refl
-  agree-refl (a ∷ x) = go (Γ .same a a) (agree-refl x)
-    where
-      go : (d : Dec (a ≡ a)) → agree Γ x x ≡ true → agree-step Γ d (agree Γ x x) ≡ true
-      go (yes s) e = e
-      go (no n) e = absurd (n refl)
-
-  pub agree-false : (x y : Word Γ) → agree Γ x y ≡ false → ¬ (x ≡ y)
-  agree-false x y e k = true≢false (sym (agree-refl x) ∙ ap (agree Γ x) k ∙ e)
-
   -- i is the first place from `from` on, before `end`, at which r is t
   pub record Found (r t : Word Γ) (from end i : ℕ) : Type 0 where
     pub after : from ≤ i
@@ -115,13 +94,13 @@ module _ (Γ : Alphabet) where
   pub search-some : (r t : Word Γ) (n i : ℕ) {k : ℕ} → search Γ r t n i ≡ some k → Found r t i (i + n) k
   unfolding search search-step
   search-some r t zero i {k} e = absurd (Option·none-ne-some k e)
-  search-some r t (suc n) i {k} e = go (agree Γ (rotate i r) t) refl e (search-some r t n (suc i))
+  search-some r t (suc n) i {k} e = go (agree (Γ .same) (rotate i r) t) refl e (search-some r t n (suc i))
     where
-      go : (b : Bool) → agree Γ (rotate i r) t ≡ b → search-step Γ b i (search Γ r t n) ≡ some k
+      go : (b : Bool) → agree (Γ .same) (rotate i r) t ≡ b → search-step Γ b i (search Γ r t n) ≡ some k
           → (search Γ r t n (suc i) ≡ some k → Found r t (suc i) (suc i + n) k) → Found r t i (i + suc n) k
       go true s e ih =
           let f : i ≡ k = Option·some-injective i k e in
-          let x : rotate i r ≡ t = agree-true (rotate i r) t s in
+          let x : rotate i r ≡ t = agree-true (Γ .same) (rotate i r) t s in
           record {
             after = omega arith;
             before = omega arith;
@@ -142,21 +121,21 @@ module _ (Γ : Alphabet) where
             where
               pass : Dec (i < j) → ¬ (rotate j r ≡ t)
               pass (yes g) = o .first j g l
-              pass (no g) = let f : i ≡ j = omega arith in rw (← f) (agree-false (rotate i r) t s)
+              pass (no g) = let f : i ≡ j = omega arith in rw (← f) (agree-false (Γ .same) (rotate i r) t s)
 
   pub search-none : (r t : Word Γ) (n i : ℕ) → search Γ r t n i ≡ none
       → (j : ℕ) → i ≤ j → j < i + n → ¬ (rotate j r ≡ t)
   unfolding search search-step
   search-none r t zero i e j h k = absurd (omega arith)
   search-none r t (suc n) i e j h k =
-      go (agree Γ (rotate i r) t) refl e (search-none r t n (suc i)) (decLt i j)
+      go (agree (Γ .same) (rotate i r) t) refl e (search-none r t n (suc i)) (decLt i j)
     where
-      go : (b : Bool) → agree Γ (rotate i r) t ≡ b → search-step Γ b i (search Γ r t n) ≡ none
+      go : (b : Bool) → agree (Γ .same) (rotate i r) t ≡ b → search-step Γ b i (search Γ r t n) ≡ none
           → (search Γ r t n (suc i) ≡ none → (j : ℕ) → suc i ≤ j → j < suc i + n → ¬ (rotate j r ≡ t))
           → Dec (i < j) → ¬ (rotate j r ≡ t)
       go true s e ih d = absurd (Option·some-ne-none i e)
       go false s e ih (yes g) = ih e j g (omega arith)
-      go false s e ih (no g) = let f : i ≡ j = omega arith in rw (← f) (agree-false (rotate i r) t s)
+      go false s e ih (no g) = let f : i ≡ j = omega arith in rw (← f) (agree-false (Γ .same) (rotate i r) t s)
 
   -- the place found is the first at which r is t
   pub rotation-some : (r t : Word Γ) {i : ℕ} → rotation Γ r t ≡ some i
