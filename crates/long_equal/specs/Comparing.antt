@@ -4,7 +4,7 @@ use mathlib.Core.Path.{_≡_}
 use mathlib.Core.Bool.{true}
 use mathlib.Core.List.{List, _++_}
 use mathlib.Core.Logic.{_↔_}
-use lib.ListN.{length, take}
+use lib.ListN.{length}
 use Rattle.spec.specs.Catalogue.{commands}
 use Rattle.input_chains.specs.Conflicts.{Conflicts}
 use Rattle.array_row.specs.Area.{StartsWith}

@@ -1,5 +1,5 @@
-// The normal form of a long word: the word is reduced on stacks, and the stacks are read off. Their links are as many as
-// a word of its length needs, so that a short word clears little.
+// The normal form of a long word: the word is reduced on stacks, and the stacks are read off. Their links are as many
+// as a word of its length needs, so that a short word clears little.
 
 ghost use Prim.Native.Nat.{ℕ};
 ghost use mathlib.Core.Path.{_≡_};
