@@ -3,6 +3,7 @@ use Prim.Native.Nat.{ℕ, _+_, _<_, _≤_}
 use mathlib.Core.Path.{_≡_, refl, _∙_, ap}
 use mathlib.Core.List.{List, [], _∷_, _++_}
 use mathlib.Core.Option.{Option, none, some}
+use native.Mathlib.Omega.{arith}
 use lib.ListN.{length}
 use borrow.Author.Tests.{lt-ltb, le-ltb}
 use Rattle.spec.specs.Table.{Line, line, Answer, refused, given, firstLine}
@@ -61,18 +62,24 @@ module _ {c v w : List ℕ} (u : List ℕ) {rows : List (List ℕ)} {r : Checked
       module _ (i : length u + length w ≤ length area1) where
         pub check-comparable : Comparable c rows v w u area0 area1
         check-comparable =
-            let (p, q) = d .passed (entered-none d e) in
+            let ((p, q), (l, g)) = d .passed (entered-none d e) in
             record {
-              table = p .0 .table;
-              few = p .0 .few;
-              passing-v = p .0 .passing;
-              passing-w = p .1 .passing;
-              passing-u = q .1;
-              short-v = p .0 .short;
-              short-w = p .1 .short;
-              short-u = q .0;
-              fits0 = h;
-              fits1 = i;
+              first = record {
+                table = p .table;
+                few = p .few;
+                left = p .passing;
+                right = g;
+                short = omega (arith, p .short);
+                fits = h;
+              };
+              second = record {
+                table = q .table;
+                few = q .few;
+                left = g;
+                right = q .passing;
+                short = omega (arith, q .short);
+                fits = i;
+              };
             }
 
         pub check-told : {b : Both} {after0 after1 : List ℕ} {t : Answer CheckedLeadIn}

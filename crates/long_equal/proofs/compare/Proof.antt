@@ -4,7 +4,7 @@ use mathlib.Core.Path.{sym}
 use borrow.Author.Needs.{needs}
 use lib.Seq.{length-take-le}
 use Rattle.array_row.specs.AreaLaws.{starts-fits}
-use Rattle.long_equal.specs.ComparingLaws.{comparable-first, comparable-second, compared}
+use Rattle.long_equal.specs.ComparingLaws.{compared}
 use Rattle.long_equal.proofs.compare.Statement.{statement}
 use Rattle.long_equal.proofs.compare.Tie as tie
 
@@ -50,7 +50,7 @@ returns : tie.Need-returns
 returns c =
     let d = both (c .before .before .before) in
     λ k p.
-    compared (first d .product .ensures k (comparable-first p)) (d .product2 .ensures k (comparable-second p))
+    compared (first d .product .ensures k (p .first)) (d .product2 .ensures k (p .second))
     (c .same-bytes .ensures)
 
 pub compare-spec : {M : Type 1} → statement M
