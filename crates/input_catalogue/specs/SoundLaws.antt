@@ -7,7 +7,7 @@ use mathlib.Core.List.{List}
 use mathlib.Core.Option.{Option, none, some}
 use lib.ListN.{length, getD}
 use lib.Dec.{ltb, eqb}
-use borrow.Author.Tests.{lt-ltb, le-ltb, eq-eqb, ne-eqb, le-leb, ltb-false, eqb-true, eqb-false, not-false}
+use borrow.Author.Tests.{lt-ltb, le-ltb, eq-eqb, ne-eqb, ltb-false, eqb-true, eqb-false, not-false}
 use Rattle.theory_words.specs.BoolLaws.{or-neither}
 use Rattle.spec.specs.Table.{Line, line, refused, orElse, holds, lineAt}
 use Rattle.input_catalogue.specs.Checked.{toldChecked}
@@ -16,6 +16,7 @@ use Rattle.spec.specs.declared.Refusal.{Refusal}
 use Rattle.input_catalogue.specs.declared.Checked.{Checked}
 use Rattle.input_catalogue.specs.declared.Checked.the-variants.{Passed, Refused}
 use Rattle.spec.specs.Catalogue.{commands, records, head, headPlace, command, next, nextPlace, commandPlace}
+use Rattle.spec.specs.AlphabetLaws.{within-in}
 use Rattle.spec.specs.Catalogue.{orIf, countLine, headLine, nextLine, recordLine}
 use Rattle.input_catalogue.specs.Sound.{frameLine, Decides, Framed, Sound}
 
@@ -69,14 +70,14 @@ abbrev pub wrongCommand : List ℕ → ℕ → Bool
 wrongCommand c j = eqb (command c j) 0 || ltb (commands c) (command c j)
 
 module _ (c : List ℕ) where
-  pub head-at : (a : ℕ) → a ≤ commands c → head c a ≡ getD c (headPlace a) 0
-  head-at a h = rw (le-leb a (commands c) h)
+  pub head-at : (a : ℕ) → 1 ≤ a → a ≤ commands c → head c a ≡ getD c (headPlace a) 0
+  head-at a l h = rw (within-in 1 (commands c) a l h)
 
-  pub head-high : (a : ℕ) → a ≤ commands c → records c < getD c (headPlace a) 0 → highHead c a ≡ true
-  head-high a h l = rw (head-at a h) (lt-ltb (records c) (getD c (headPlace a) 0) l)
+  pub head-high : (a : ℕ) → 1 ≤ a → a ≤ commands c → records c < getD c (headPlace a) 0 → highHead c a ≡ true
+  head-high a la ha l = rw (head-at a la ha) (lt-ltb (records c) (getD c (headPlace a) 0) l)
 
-  pub head-low : (a : ℕ) → a ≤ commands c → getD c (headPlace a) 0 ≤ records c → highHead c a ≡ false
-  head-low a h l = rw (head-at a h) (le-ltb (records c) (getD c (headPlace a) 0) l)
+  pub head-low : (a : ℕ) → 1 ≤ a → a ≤ commands c → getD c (headPlace a) 0 ≤ records c → highHead c a ≡ false
+  head-low a la ha l = rw (head-at a la ha) (le-ltb (records c) (getD c (headPlace a) 0) l)
 
   pub command-zero : (j : ℕ) → command c j ≡ 0 → wrongCommand c j ≡ true
   command-zero j e = rw (eq-eqb (command c j) 0 e)

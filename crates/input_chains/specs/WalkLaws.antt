@@ -44,13 +44,13 @@ module _ (c : List ℕ) (s : Sound c) (a : ℕ) (la : 1 ≤ a) (ha : a ≤ comma
   walk-start rows sh =
       record {
         shape = sh;
-        within = rw (← head-at c a ha) (s .heads a la ha);
-        ending = rw (head-at c a ha);
-        marks = rw (head-at c a ha);
+        within = rw (← head-at c a la ha) (s .heads a la ha);
+        ending = rw (head-at c a la ha);
+        marks = rw (head-at c a la ha);
       }
 
   pub note-start : (own : List (List ℕ)) → Shape own → Noting c a own own (records c) (getD c (headPlace a) 0)
-  note-start own sh = record { shape = sh; notes = rw (head-at c a ha) }
+  note-start own sh = record { shape = sh; notes = rw (head-at c a la ha) }
 
   pub walk-again : {rows₀ rows : List (List ℕ)} {left at : ℕ} {rows' : List (List ℕ)}
       → Walking c a rows₀ rows left at → 0 < left → 0 < at → rows' ≡ pair rows a (command c at)

@@ -1,14 +1,16 @@
 -- The invariants of the loops that walk the chains, and what the marks tell in the end.
-use Prim.Native.Nat.{ℕ, zero, suc, _+_, _-_, _≤_, _<_}
+use Prim.Native.Nat.{ℕ, _+_, _-_, _≤_, _<_}
 use native.Mathlib.Decide.{ℕ-discrete, decLt}
 use native.Mathlib.Numerals.{add-one}
 use native.Mathlib.Omega.{arith}
 use mathlib.Core.Path.{_≡_, refl, sym, _∙_, ap}
 use mathlib.Core.Bool.{Bool, true, false, not, _||_, _&&_, or-self, and-true, and-false}
-use mathlib.Core.List.{List, []}
+use mathlib.Core.List.{List}
 use lib.Dec.{eqb, ltb, eqb·suc-suc}
-use borrow.Author.Tests.{ne-eqb, lt-ltb, le-ltb, lt-leb}
-use Rattle.spec.specs.Catalogue.{commands, records, head, ends, follow, chain, stands}
+use borrow.Author.Tests.{ne-eqb, lt-ltb, le-ltb}
+use Rattle.spec.specs.Catalogue.{commands, records, head, ends, chain, stands}
+use Rattle.spec.specs.AlphabetLaws.{within-over}
+use Rattle.spec_laws.specs.CatalogueLaws.{no-chain}
 use Rattle.input_chains.specs.Conflicts.{bit, Conflicts}
 use Rattle.spec.specs.Conflict.{conflict}
 use Rattle.input_chains.specs.Marking.{cell, Shape, pairs}
@@ -78,22 +80,13 @@ chained-again c s a la ha {rows} bs fit same m e =
         (merge (eqb (i + 1) a) (ltb (i + 1) a) (eqb (j + 1) a) (ltb (j + 1) a) (stands (j + 1) (chain c (i + 1)))
         (stands (i + 1) (chain c (j + 1)))))
 
--- a number above N has no chain
-chain-above : (c : List ℕ) (x : ℕ) → commands c < x → chain c x ≡ []
-unfolding follow
-chain-above c x h = rw (lt-leb x (commands c) h) (nil (records c))
-  where
-    nil : (n : ℕ) → follow c n 0 ≡ []
-    nil zero = refl
-    nil (suc n) = refl
-
 chain-below : (c : List ℕ) (a x y : ℕ) → commands c < a → (ltb x a && stands y (chain c x)) ≡ stands y (chain c x)
 unfolding stands
 chain-below c a x y h = go (decLt x a)
   where
     go : Dec (x < a) → (ltb x a && stands y (chain c x)) ≡ stands y (chain c x)
     go (yes l) = rw (lt-ltb x a l)
-    go (no l) = rw (le-ltb x a (omega arith), chain-above c x (omega arith))
+    go (no l) = rw (le-ltb x a (omega arith), no-chain c x (within-over 1 (commands c) x (omega arith)))
 
 pub chained-end : (c : List ℕ) {a : ℕ} {rows : List (List ℕ)} → commands c < a → Chained c a rows → Met c rows
 chained-end c {a} h m =

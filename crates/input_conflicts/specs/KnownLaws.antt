@@ -60,7 +60,7 @@ module _ (c : List ℕ) (s : Sound c) (a : ℕ) (la : 1 ≤ a) (ha : a ≤ comma
   module _ {own : List (List ℕ)} {firsts : List ℕ} (k : Known c a own firsts) {h b : ℕ}
       (eh : h ≡ getD c (headPlace a) 0) (w : Walked c a own h b) where
     same-head : head c a ≡ head c b
-    same-head = head-at c a ha ∙ sym eh ∙ sym (w .heads)
+    same-head = head-at c a la ha ∙ sym eh ∙ sym (w .heads)
 
     pub like-ends : true ≡ ends c (records c) (head c a)
     like-ends = sym (ap (ends c (records c)) (same-head ∙ w .heads) ∙ w .ending)
@@ -134,8 +134,8 @@ module _ (c : List ℕ) (s : Sound c) (a : ℕ) (la : 1 ≤ a) (ha : a ≤ comma
           (record {
             one = la;
             below = omega arith;
-            heads = head-at c a ha ∙ sym eh ∙ sym z;
-            ending = ap (ends c (records c)) (z ∙ eh ∙ sym (head-at c a ha)) ∙ sym t;
+            heads = head-at c a la ha ∙ sym eh ∙ sym z;
+            ending = ap (ends c (records c)) (z ∙ eh ∙ sym (head-at c a la ha)) ∙ sym t;
             tells = λ j hj.
                 let m : a - 1 + 1 ≡ a = omega arith in
                 cells (a - 1) j (omega (arith, few)) hj false (k .blank (a - 1) j (omega arith) (omega (arith, few)) hj)

@@ -8,9 +8,8 @@ use native.Mathlib.Omega.{arith}
 use native.Mathlib.Nat.{add-mod-right}
 use lib.Dec.{leb, eqb}
 use borrow.Author.Tests.{leb-true, leb-false, le-leb, lt-leb, eqb-true, eqb-false, eq-eqb, ne-eqb}
-use Rattle.spec.specs.Catalogue.{chain, stands}
+use Rattle.spec.specs.Catalogue.{within, chain, stands}
 use Rattle.spec.specs.Conflict.{conflict}
-use Rattle.spec.specs.Plan.{within}
 use Rattle.spec.specs.Byte.{commandOf, undone}
 
 pub within-in : (low high b : ℕ) → low ≤ b → b ≤ high → within low high b ≡ true

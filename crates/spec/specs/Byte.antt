@@ -2,7 +2,7 @@
 use Prim.Native.Nat.{ℕ, _+_, _-_, _%_}
 use mathlib.Core.Bool.{Bool, true, false}
 use mathlib.Core.List.{List, map, reverse}
-use Rattle.spec.specs.Plan.{within}
+use Rattle.spec.specs.Catalogue.{within}
 
 -- the command that a byte does or undoes
 abbrev pub commandOf : ℕ → ℕ

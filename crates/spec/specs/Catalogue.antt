@@ -1,7 +1,7 @@
 -- The catalogue's layout, and lines 1 to 6 of document 01's table over any bytes.
 -- Byte 0 is N, byte 1 is R, then N heads, then R records of two bytes: a command and the index of the next record.
 use Prim.Native.Nat.{ℕ, zero, suc, _+_, _*_}
-use mathlib.Core.Bool.{Bool, true, false, not, _||_}
+use mathlib.Core.Bool.{Bool, true, false, not, _&&_, _||_}
 use mathlib.Core.List.{List, [], _∷_}
 use mathlib.Core.Option.{Option, none, some}
 use lib.ListN.{length, getD}
@@ -25,13 +25,16 @@ commandPlace c j = commands c + 2 * j
 abbrev pub nextPlace : List ℕ → ℕ → ℕ
 nextPlace c j = commands c + 2 * j + 1
 
--- the head of command a; a number above N is no command and has no chain
+abbrev pub within : ℕ → ℕ → ℕ → Bool
+within low high b = leb low b && leb b high
+
+-- the head of command a; 0 and a number above N are no commands and have no chain
 abbrev pub head-step : Bool → ℕ → ℕ
 head-step true h = h
 head-step false h = 0
 
 abbrev pub head : List ℕ → ℕ → ℕ
-head c a = head-step (leb a (commands c)) (getD c (headPlace a) 0)
+head c a = head-step (within 1 (commands c) a) (getD c (headPlace a) 0)
 
 abbrev pub command : List ℕ → ℕ → ℕ
 command c j = getD c (commandPlace c j) 0

@@ -2,15 +2,13 @@
 -- Byte k, 1 to N, does command k; byte 128 + k undoes it; byte 0 is a filler.
 use Prim.Native.Nat.{ℕ, _+_}
 use mathlib.Core.Path.{_≡_}
-use mathlib.Core.Bool.{Bool, true, not, _&&_, _||_}
+use mathlib.Core.Bool.{Bool, true, not, _||_}
 use mathlib.Core.List.{List, [], _∷_}
 use mathlib.Core.Option.{Option}
 use lib.ListN.{length, getD}
-use lib.Dec.{leb, ltb, eqb}
+use lib.Dec.{ltb, eqb}
 use Rattle.spec.specs.Table.{Line, line, holds, firstOf, lineAt}
-
-abbrev pub within : ℕ → ℕ → ℕ → Bool
-within low high b = leb low b && leb b high
+use Rattle.spec.specs.Catalogue.{within}
 
 -- with N commands: 1 to N, or 129 to 128 + N
 unfoldable pub isCommand : ℕ → ℕ → Bool

@@ -1,13 +1,23 @@
--- For the reader, and cited by no other file: a chain that has not ended within R records never ends, so line 5 is
--- about chains of any length; and one that has ended has the same commands however many more records are allowed.
+-- A number that is no command has no chain. For the reader, and cited by no other file: a chain that has not ended
+-- within R records never ends, so line 5 is about chains of any length; and one that has ended has the same commands
+-- however many more records are allowed.
 use Prim.Native.Nat.{ℕ, zero, suc, _≤_, _<_}
 use native.Mathlib.Decide.{ℕ-discrete}
 use native.Mathlib.Omega.{arith}
 use mathlib.Core.Path.{_≡_, refl, sym, _∙_, ap}
 use mathlib.Core.Bool.{Bool, true, false, true≢false}
-use mathlib.Core.List.{List, _∷_}
+use mathlib.Core.List.{List, [], _∷_}
 use mathlib.Core.Logic.{_⊎_, inl, inr}
-use Rattle.spec.specs.Catalogue.{records, command, next, head, ends, follow, chain}
+use Rattle.spec.specs.Catalogue.{commands, records, command, next, within, head, ends, follow, chain}
+
+-- 0 and a number above N are no commands
+pub no-chain : (c : List ℕ) (a : ℕ) → within 1 (commands c) a ≡ false → chain c a ≡ []
+unfolding follow
+no-chain c a e = rw e (nil (records c))
+  where
+    nil : (n : ℕ) → follow c n 0 ≡ []
+    nil zero = refl
+    nil (suc n) = refl
 
 -- how many of the numbers 1 to n pass a test
 abbrev count-step : Bool → ℕ → ℕ

@@ -8,7 +8,8 @@ use native.Mathlib.Nat.{mod-eq-of-lt, add-mod-right}
 use lib.Dec.{eqb}
 use borrow.Author.Tests.{ne-eqb}
 use Rattle.theory_words.specs.BoolLaws.{true-same, or-either}
-use Rattle.spec.specs.Plan.{within, isCommand, passes}
+use Rattle.spec.specs.Catalogue.{within}
+use Rattle.spec.specs.Plan.{isCommand, passes}
 use Rattle.spec.specs.Byte.{commandOf, undone}
 use Rattle.spec.specs.AlphabetLaws.{undone-undone, Kind, does, undoes, neither, kind}
 use Rattle.spec.specs.AlphabetLaws.{Side, under, amid, over, side, within-in, within-under, within-over}

@@ -35,7 +35,7 @@ returns : tie.Need-returns Inv-loop μ-loop
 returns c =
     let cat = start-from-refused c .args .c .now in
     let g = at-loop c .loop in
-    let high = head-high cat (g .a) (omega arith) (c .before .if1 .taken) in
+    let high = head-high cat (g .a) (g .inv .low) (omega arith) (c .before .if1 .taken) in
     let hit = search-hit (highHead cat) (g .inv) (omega arith) high in
     decides cat (c .refused .result) (ap (lineAt 3 0 headPlace) hit) (c .refused .ensures)
 
@@ -43,7 +43,8 @@ loop-again : tie.Need-loop-again Inv-loop μ-loop
 loop-again c =
     let cat = start-from-else1 c .args .c .now in
     let g = c .before .before .before .before .loop in
-    search-again (highHead cat) (g .inv) (omega arith) (head-low cat (g .a) (omega arith) (c .if1 .left))
+    let low = head-low cat (g .a) (g .inv .low) (omega arith) (c .if1 .left) in
+    search-again (highHead cat) (g .inv) (omega arith) low
 
 returns-2 : tie.Need-returns-2 Inv-loop μ-loop
 returns-2 c =
