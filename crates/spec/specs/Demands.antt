@@ -1,20 +1,25 @@
 -- What was bought: the demands, as statements without proofs. The contract of each call says that the call, on any
 -- bytes, answers what its definition says (Calls, Loops) and leaves its areas as its definition says; here stands what
--- that is worth, over steps (Step), their order (Order) and lead-ins (Join) alone. The crate spec_laws proves each
--- demand as one value (DemandsMet), the crate loops_framing that of the program's input.
-use Prim.Native.Nat.{ℕ, _≤_}
+-- that is worth, over steps (Step), their order (Order), pairs (Core) and lead-ins (Join) alone. The crate spec_laws
+-- proves each demand as one value (DemandsMet), the crate loops_framing that of the program's input.
+use Prim.Native.Nat.{ℕ}
 use mathlib.Core.Path.{_≡_}
 use mathlib.Core.Bool.{Bool, true}
-use mathlib.Core.List.{List}
+use mathlib.Core.List.{List, _++_}
 use mathlib.Core.Option.{Option, none, some}
 use mathlib.Core.Logic.{_↔_, _⊎_}
 use lib.ListN.{length, take, drop}
 use Rattle.spec.specs.Table.{Line, refused, given, firstLine, orElse, NoneHolds, FirstHolds}
+use Rattle.spec.specs.Catalogue.{commands, countLine}
+use Rattle.spec.specs.Plan.{isCommand}
+use Rattle.spec.specs.Byte.{undone, undoOf}
 use Rattle.spec.specs.Step.{Equal}
 use Rattle.spec.specs.Order.{Earlier}
 use Rattle.spec.specs.Join.{Joins}
+use Rattle.spec.specs.Core.{Swaps, Least, CyclicallyReduced, TakenOff}
 use Rattle.spec.specs.Answers.{CheckedLeadIn}
-use Rattle.spec.specs.Calls.{areaAfter, normalFormAnswer, normalFormArea, equalAnswer}
+use Rattle.spec.specs.Calls.{areaAfter, normalFormAnswer, normalFormArea, coreAnswer, coreArea}
+use Rattle.spec.specs.Calls.{equalAnswer}
 use Rattle.spec.specs.Loops.{Looped, LeadIn, checkAnswer}
 use Rattle.spec.specs.Framing.{Framed, wellFramed, catalogueOf, plan1Of, plan2Of}
 
@@ -31,7 +36,7 @@ pub record Demand1 : Type 1 where
 -- z has the effect of v, is no longer than any plan that has it, and is the first of those of its length
 pub record Shortest (c v z : List ℕ) : Type 0 where
   pub equal : Equal c z v
-  pub least : (x : List ℕ) → Equal c x v → length z ≤ length x
+  pub least : Least c z
   pub first : (x : List ℕ) → Equal c x v → length x ≡ length z → (x ≡ z) ⊎ Earlier z x
 
 -- Demand 2. Two plans that are not refused are called equal exactly if a chain of steps joins them. Of a plan that is
@@ -40,6 +45,20 @@ pub record Demand2 : Type 0 where
   pub equal : (c v w : List ℕ) (b : Bool) → equalAnswer c v w ≡ given b → (b ≡ true) ↔ Equal c v w
   pub normal-form : (c v area : List ℕ) (l : ℕ) → normalFormAnswer c v area ≡ given l
       → (length (take l (normalFormArea c v area)) ≡ l) × Shortest c v (take l (normalFormArea c v area))
+
+-- z is the core of v: v is equal to some g, z, undo of g; z is cyclically reduced, and a normal form; it is left when
+-- pairs are taken off some shortest plan of v's effect, and what is left of any of them, in any way, has its effect
+pub record CoreOf (c v z : List ℕ) : Type 0 where
+  pub product : (g : List ℕ) × Equal c v (g ++ (z ++ undoOf g))
+  pub reduced : CyclicallyReduced c z
+  pub normal : Shortest c z z
+  pub some-way : (x : List ℕ) × Equal c x v × Least c x × TakenOff c x z
+  pub any-way : (x y : List ℕ) → Equal c x v → Least c x → TakenOff c x y → Equal c y z
+
+-- The core call. Of a plan that is not refused, the first L bytes of the area are its core.
+pub record CoreDemand : Type 0 where
+  pub core : (c v area : List ℕ) (l : ℕ) → coreAnswer c v area ≡ given l
+      → (length (take l (coreArea c v area)) ≡ l) × CoreOf c v (take l (coreArea c v area))
 
 -- an answer o to two loops is exact: a length says that some plan u of any length joins them, nothing that none does
 pub record Exact (c v w : List ℕ) (o : Option ℕ) : Type 0 where
@@ -62,3 +81,9 @@ pub record FramingDemand : Type 0 where
   pub parts : (s : List ℕ) → wellFramed s ≡ true → Framed s (catalogueOf s) (plan1Of s) (plan2Of s)
   pub whole : {s c v w : List ℕ} → Framed s c v w
       → (wellFramed s ≡ true) × (c ≡ catalogueOf s) × (v ≡ plan1Of s) × (w ≡ plan2Of s)
+
+-- What document 01 says of all plans: with at most 24 commands each differs from its undo, and all shortest plans of
+-- one effect differ by swaps alone.
+pub record PlansDemand : Type 0 where
+  pub undo-differs : (c : List ℕ) (b : ℕ) → countLine c ≡ none → isCommand (commands c) b ≡ true → ¬ (undone b ≡ b)
+  pub swaps-alone : (c x y : List ℕ) → Equal c x y → Least c x → Least c y → Swaps c x y

@@ -7,6 +7,7 @@ pub mod Byte
 pub mod Step
 pub mod Order
 pub mod Join
+pub mod Core
 pub mod AlphabetLaws
 pub mod Letters
 pub mod Answers

@@ -13,7 +13,7 @@ use Rattle.theory_words.specs.Alike.{alike?}
 use Rattle.theory_words.specs.AlikeLaws.{alike-exact}
 use Rattle.spec.specs.Table.{Line, line, holds, refused, given, firstLine, orElse}
 use Rattle.spec_laws.specs.TableLaws.{none-holds}
-use Rattle.spec.specs.Catalogue.{commands, catalogueLines}
+use Rattle.spec.specs.Catalogue.{commands, countLine, catalogueLines}
 
 module _ {A : Type 0} where
   pub answer-refused : (o : Option Line) (a : A) (l : Line) → (orElse o a ≡ refused l) ↔ (o ≡ some l)
@@ -31,11 +31,12 @@ holds-none : (t : Bool) (l : Line) → holds t l ≡ none → t ≡ false
 holds-none true l e = absurd (let z : _≡_ {A = ℕ} 0 1 = cc in omega arith)
 holds-none false l e = refl
 
--- a catalogue that no line refuses has at most 24 commands
+-- a catalogue that line 2 does not refuse has at most 24 commands
+pub counted-few : (c : List ℕ) → countLine c ≡ none → commands c ≤ 24
+counted-few c e = ltb-false 24 (commands c) (holds-none (ltb 24 (commands c)) (line 2 0 0) e)
+
 pub few-commands : (c : List ℕ) → firstLine (catalogueLines c) ≡ none → commands c ≤ 24
-few-commands c e =
-    let h = none-holds (catalogueLines c) .0 e in
-    ltb-false 24 (commands c) (holds-none (ltb 24 (commands c)) (line 2 0 0) (h .1 .0))
+few-commands c e = counted-few c (none-holds (catalogueLines c) .0 e .1 .0)
 
 -- a comparison that is exact gives the answer that the definition computes
 pub exact-alike : (b : Bool) (v w : List ℕ) → (b ≡ true) ↔ (v ≡ w) → b ≡ alike? v w

@@ -11,7 +11,7 @@ use Rattle.theory_words.specs.BoolLaws.{true-same, or-either}
 use Rattle.spec.specs.Catalogue.{within}
 use Rattle.spec.specs.Plan.{isCommand, passes}
 use Rattle.spec.specs.Byte.{commandOf, undone}
-use Rattle.spec.specs.AlphabetLaws.{undone-undone, Kind, does, undoes, neither, kind}
+use Rattle.spec.specs.AlphabetLaws.{undone-does, undone-undoes, undone-undone, Kind, does, undoes, neither, kind}
 use Rattle.spec.specs.AlphabetLaws.{Side, under, amid, over, side, within-in, within-under, within-over}
 
 pub within-true : (low high b : ℕ) → within low high b ≡ true → (low ≤ b) × (b ≤ high)
@@ -101,3 +101,11 @@ command-range n b m e = go (spelled n b m e)
     go : Spelled n b → (1 ≤ commandOf b) × (commandOf b ≤ n)
     go (plain l h k) = (rw k l, rw k h)
     go (undo l h k) = (l, h)
+
+-- a command differs from its undo
+pub command-differs : (n b : ℕ) → n ≤ 127 → isCommand n b ≡ true → ¬ (undone b ≡ b)
+command-differs n b m e u = go (said n b e)
+  where
+    go : Said n b → ⊥
+    go (done l h) = let k = undone-does b l (omega arith) in omega arith
+    go (back l h) = let k = undone-undoes b l (omega arith) in omega arith

@@ -16,17 +16,21 @@ use Rattle.spec.specs.Catalogue.{commands, catalogueLines}
 use Rattle.spec.specs.Plan.{planLines, Passing}
 use Rattle.spec_laws.specs.PlanLaws.{lines-pass, passing-append}
 use Rattle.spec.specs.Letters.{normalForm}
-use Rattle.spec_laws.specs.NormalFormLaws.{normal-equal, normal-least, normal-first, equal-normal}
+use Rattle.spec_laws.specs.NormalFormLaws.{normal-shortest, equal-normal}
+use Rattle.spec_laws.specs.CommandLaws.{command-differs}
+use Rattle.spec_laws.specs.SwapLaws.{swaps-alone}
+use Rattle.spec_laws.specs.CoreFormLaws.{core-of}
 use Rattle.spec.specs.Step.{Equal}
-use Rattle.spec.specs.Demands.{Demand1, Demand2, Demand3, Shortest, Exact}
+use Rattle.spec.specs.Demands.{Demand1, Demand2, Demand3, Shortest, Exact, CoreOf}
+use Rattle.spec.specs.Demands.{CoreDemand, PlansDemand}
 use Rattle.spec.specs.Calls.{planLimit, areaLine, areaAfter, normalFormLines, normalFormAnswer, normalFormArea}
-use Rattle.spec.specs.Calls.{equalLines, equalAnswer}
+use Rattle.spec.specs.Calls.{coreForm, coreAnswer, coreArea, equalLines, equalAnswer}
 use Rattle.spec.specs.Answers.{CheckedLeadIn}
 use Rattle.spec.specs.Loops.{Looped, apart, joined, LeadIn, checkLines, checkAnswer}
 use Rattle.spec_laws.specs.LoopLaws.{loops-pass, none-joins, none-some, check-pass}
 use Rattle.spec.specs.Join.{Joins}
 use Rattle.spec_laws.specs.JoinLaws.{joins-check}
-use Rattle.spec_laws.specs.CallLaws.{answer-refused, answer-given, few-commands}
+use Rattle.spec_laws.specs.CallLaws.{answer-refused, answer-given, counted-few, few-commands}
 
 -- Demand 1
 
@@ -72,38 +76,49 @@ equal-demand c v w b e = (
         equal-normal c v w (lines-pass 1 planLimit (commands c) v .0 p .1)
         (lines-pass 2 planLimit (commands c) w .0 q .1)
 
+-- a plan whose normal form or core is given passes, under at most 24 commands
+form-given : (c v area : List ℕ) → firstLine (normalFormLines c v area) ≡ none
+    → (commands c ≤ 127) × Passing (commands c) v
+form-given c v area e = (
+  omega (arith, few-commands c (none-left (catalogueLines c) plan early)),
+  lines-pass 1 planLimit (commands c) v .0 (none-right (catalogueLines c) plan early) .1,
+)
+  where
+    plan : List (Option Line)
+    plan = planLines 1 planLimit (commands c) v
+
+    early : firstLine (catalogueLines c ++ plan) ≡ none
+    early = none-left (catalogueLines c ++ plan) (areaLine 0 (length v) area ∷ []) e
+
+-- the first L bytes of an area are what was written there
+written-first : (ls : List (Option Line)) (z area : List ℕ) (l : ℕ) (P : List ℕ → Type 0)
+    → orElse (firstLine ls) (length z) ≡ given l → (firstLine ls ≡ none → P z)
+    → (length (take l (areaAfter (firstLine ls) z area)) ≡ l) × P (take l (areaAfter (firstLine ls) z area))
+written-first ls z area l P e f =
+    let (none-refuses, long) = answer-given (firstLine ls) (length z) l e in
+    let t : take l (areaAfter (firstLine ls) z area) ≡ z =
+    rw none-refuses (take-at z (drop (length z) area) l long) in
+    rw t (long, f none-refuses)
+
 normal-form-demand : (c v area : List ℕ) (l : ℕ) → normalFormAnswer c v area ≡ given l
     → (length (take l (normalFormArea c v area)) ≡ l) × Shortest c v (take l (normalFormArea c v area))
 normal-form-demand c v area l e =
-    let z : take l (normalFormArea c v area) ≡ normalForm c v =
-    rw (told .0) (take-at (normalForm c v) (drop (length (normalForm c v)) area) l (told .1)) in
-    rw z (
-      told .1,
-      record {
-        equal = normal-equal c v passing;
-        least = λ x q. normal-least c x v q;
-        first = λ x q. normal-first c x v few q;
-      },
-    )
-  where
-    told : (firstLine (normalFormLines c v area) ≡ none) × (length (normalForm c v) ≡ l)
-    told = answer-given (firstLine (normalFormLines c v area)) (length (normalForm c v)) l e
-
-    early : firstLine (catalogueLines c ++ planLines 1 planLimit (commands c) v) ≡ none
-    early =
-        none-left (catalogueLines c ++ planLines 1 planLimit (commands c) v) (areaLine 0 (length v) area ∷ []) (told .0)
-
-    passing : Passing (commands c) v
-    passing =
-        lines-pass 1 planLimit (commands c) v
-        .0 (none-right (catalogueLines c) (planLines 1 planLimit (commands c) v) early)
-        .1
-
-    few : commands c ≤ 127
-    few = omega (arith, few-commands c (none-left (catalogueLines c) (planLines 1 planLimit (commands c) v) early))
+    written-first (normalFormLines c v area) (normalForm c v) area l (Shortest c v) e
+    (λ n. let (few, passing) = form-given c v area n in normal-shortest c v few passing)
 
 pub demand-2 : Demand2
 demand-2 = record { equal = equal-demand; normal-form = normal-form-demand }
+
+-- The core call
+
+core-demand : (c v area : List ℕ) (l : ℕ) → coreAnswer c v area ≡ given l
+    → (length (take l (coreArea c v area)) ≡ l) × CoreOf c v (take l (coreArea c v area))
+core-demand c v area l e =
+    written-first (normalFormLines c v area) (coreForm c v) area l (CoreOf c v) e
+    (λ n. let (few, passing) = form-given c v area n in core-of c v passing few)
+
+pub demand-core : CoreDemand
+demand-core = record { core = core-demand }
 
 -- Demand 3
 
@@ -158,3 +173,12 @@ check-demand c v w u area0 area1 k e = (
 
 pub demand-3 : Demand3
 demand-3 = record { loops = loops-demand; lead-in = lead-in-demand; check = check-demand }
+
+-- What document 01 says of all plans
+
+pub demand-plans : PlansDemand
+demand-plans =
+    record {
+      undo-differs = λ c b e. command-differs (commands c) b (omega (arith, counted-few c e));
+      swaps-alone = swaps-alone;
+    }

@@ -11,7 +11,9 @@ pub mod LettersLaws
 pub mod StepLaws
 pub mod OrderLaws
 pub mod NormalFormLaws
+pub mod SwapLaws
 pub mod JoinLaws
+pub mod CoreFormLaws
 pub mod CallLaws
 pub mod LoopLaws
 pub mod UnsettledLaws

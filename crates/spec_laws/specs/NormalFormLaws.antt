@@ -10,7 +10,6 @@ use native.Mathlib.Nat.{le-trans}
 use lib.Dec.{eqb}
 use lib.ListN.{length}
 use Rattle.theory_words.specs.Filter.{filter}
-use Rattle.theory_words.specs.Group.{_≈_}
 use Rattle.theory_words.specs.Normal.{Smaller}
 use Rattle.theory_words.specs.NormalLaws.{nf-≈, nf-complete, nf-sound, nf-length, nf-least, nf-first}
 use Rattle.theory_words.specs.ReduceLaws.{reduce-length}
@@ -21,12 +20,13 @@ use Rattle.spec.specs.Letters.{letters, alphabet, normalForm}
 use Rattle.spec_laws.specs.LettersLaws.{Commands, letters-commands, commands-passing, letters-same}
 use Rattle.spec_laws.specs.LettersLaws.{letters-length, letters-filler, letters-letter}
 use Rattle.spec.specs.Step.{Equal}
-use Rattle.spec_laws.specs.StepLaws.{equal-exact, equal-words, equal-right}
+use Rattle.spec_laws.specs.StepLaws.{equal-exact, equal-words, equal-right, equal-trans}
 use Rattle.spec.specs.Order.{Earlier}
 use Rattle.spec_laws.specs.OrderLaws.{smaller-earlier}
+use Rattle.spec.specs.Demands.{Shortest}
 
 -- a plan with no filler is its own word
-letters-full : (v : List ℕ) → length (letters v) ≡ length v → letters v ≡ v
+pub letters-full : (v : List ℕ) → length (letters v) ≡ length v → letters v ≡ v
 unfolding letters filter
 letters-full [] e = refl
 letters-full (b ∷ v) e = go (eqb b 0) refl (letters-full v)
@@ -87,3 +87,12 @@ module _ (c : List ℕ) where
           → (x ≡ normalForm c v) ⊎ Earlier (normalForm c v) x
       go k (inl p) = inl (sym k ∙ p)
       go k (inr s) = inr (smaller-earlier c (commands c) m (normal-passing v (equal-right c e)) (rw k at s))
+
+  -- the three together
+  pub normal-shortest : (v : List ℕ) → commands c ≤ 127 → Passing (commands c) v → Shortest c v (normalForm c v)
+  normal-shortest v m h =
+      record {
+        equal = normal-equal v h;
+        least = λ x q. normal-least x v (equal-trans c q (normal-equal v h));
+        first = λ x q. normal-first x v m q;
+      }
