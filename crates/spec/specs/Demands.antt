@@ -9,7 +9,7 @@ use mathlib.Core.List.{List, _++_}
 use mathlib.Core.Option.{Option, none, some}
 use mathlib.Core.Logic.{_↔_, _⊎_}
 use lib.ListN.{length, take, drop}
-use Rattle.spec.specs.Table.{Line, refused, given, firstLine, orElse, NoneHolds, FirstHolds}
+use Rattle.spec.specs.Table.{Line, line, Answer, refused, given, firstLine, orElse, NoneHolds, FirstHolds}
 use Rattle.spec.specs.Catalogue.{commands, countLine}
 use Rattle.spec.specs.Plan.{isCommand}
 use Rattle.spec.specs.Byte.{undone, undoOf}
@@ -20,7 +20,7 @@ use Rattle.spec.specs.Core.{Swaps, Least, CyclicallyReduced, TakenOff}
 use Rattle.spec.specs.Answers.{CheckedLeadIn}
 use Rattle.spec.specs.Calls.{areaAfter, normalFormAnswer, normalFormArea, coreAnswer, coreArea}
 use Rattle.spec.specs.Calls.{equalAnswer}
-use Rattle.spec.specs.Loops.{Looped, LeadIn, checkAnswer}
+use Rattle.spec.specs.Loops.{loopsLines, Looped, LeadIn, checkAnswer}
 use Rattle.spec.specs.Framing.{Framed, wellFramed, catalogueOf, plan1Of, plan2Of}
 
 -- Demand 1. A call with the lines ls and the result a is refused exactly by the first line that holds, and gives its
@@ -65,13 +65,19 @@ pub record Exact (c v w : List ℕ) (o : Option ℕ) : Type 0 where
   pub joined : ((l : ℕ) × (o ≡ some l)) ↔ ((u : List ℕ) × Joins c v w u)
   pub apart : (o ≡ none) ↔ ((u : List ℕ) → ¬ Joins c v w u)
 
--- Demand 3. A loops call that is not refused answers exactly. With each joined pair comes a lead-in: it joins v to w,
--- is a normal form, has at most N(n + m) letters and fills the first L bytes of the area, which past them is as it was.
--- A lead-in check that is not refused says yes exactly if u joins v to w.
+-- Demand 3. A loops call is refused exactly by the first line that holds, which is never line 10, and then leaves the
+-- area as it was; one that is not refused answers exactly. With each joined pair comes a lead-in: it joins v to w, is a
+-- normal form, has at most N(n + m) letters and fills the first L bytes of the area, which past them is as it was; apart
+-- leaves all of it as it was. A lead-in check that is not refused says yes exactly if u joins v to w.
 pub record Demand3 : Type 0 where
+  pub refused-exactly : {c v w area after : List ℕ} {a : Answer (Option ℕ)} → Looped c v w area a after → (l : Line)
+      → (a ≡ refused l) ↔ FirstHolds l (loopsLines c v w area)
+  pub refused-untouched : {c v w area after : List ℕ} {l : Line} → Looped c v w area (refused l) after → after ≡ area
+  pub settled : (c v w area : List ℕ) (p i : ℕ) → ¬ FirstHolds (line 10 p i) (loopsLines c v w area)
   pub loops : {c v w area after : List ℕ} {o : Option ℕ} → Looped c v w area (given o) after → Exact c v w o
   pub lead-in : {c v w area after : List ℕ} {l : ℕ} → Looped c v w area (given (some l)) after
       → (length (take l after) ≡ l) × LeadIn c v w (take l after) × (drop l after ≡ drop l area)
+  pub apart-untouched : {c v w area after : List ℕ} → Looped c v w area (given none) after → after ≡ area
   pub check : (c v w u area0 area1 : List ℕ) (k : CheckedLeadIn) → checkAnswer c v w u area0 area1 ≡ given k
       → (k .yes ≡ true) ↔ Joins c v w u
 

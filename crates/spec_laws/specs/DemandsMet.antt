@@ -7,10 +7,11 @@ use mathlib.Core.Option.{Option, none, some}
 use mathlib.Core.Logic.{_↔_}
 use native.Mathlib.Omega.{arith}
 use lib.ListN.{length, take, drop}
+use lib.Dec.{ltb}
 use lib.Seq.{take-at, take-append-seam, drop-append-seam}
 use Rattle.theory_words.specs.Alike.{alike?}
 use Rattle.theory_words.specs.AlikeLaws.{alike-exact}
-use Rattle.spec.specs.Table.{Line, refused, given, firstLine, orElse, NoneHolds, FirstHolds}
+use Rattle.spec.specs.Table.{Line, line, Answer, refused, given, firstLine, orElse, NoneHolds, FirstHolds}
 use Rattle.spec_laws.specs.TableLaws.{none-holds, first-holds, none-left, none-right}
 use Rattle.spec.specs.Catalogue.{commands, catalogueLines}
 use Rattle.spec.specs.Plan.{planLines, Passing}
@@ -20,13 +21,15 @@ use Rattle.spec_laws.specs.NormalFormLaws.{normal-shortest, equal-normal
 use Rattle.spec_laws.specs.CommandLaws.{command-differs}
 use Rattle.spec_laws.specs.SwapLaws.{swaps-alone}
 use Rattle.spec_laws.specs.CoreFormLaws.{core-of}
+use Rattle.spec_laws.specs.SearchLaws.{given-not}
 use Rattle.spec.specs.Step.{Equal}
 use Rattle.spec.specs.Demands.{Demand1, Demand2, Demand3, Shortest, Exact, CoreOf}
 use Rattle.spec.specs.Demands.{CoreDemand, PlansDemand}
 use Rattle.spec.specs.Calls.{planLimit, areaLine, areaAfter, normalFormLines, normalFormAnswer, normalFormArea}
 use Rattle.spec.specs.Calls.{coreForm, coreAnswer, coreArea, equalLines, equalAnswer}
 use Rattle.spec.specs.Answers.{CheckedLeadIn}
-use Rattle.spec.specs.Loops.{Looped, apart, joined, LeadIn, checkLines, checkAnswer}
+use Rattle.spec.specs.Loops.{leadInRoom, loopsLines, Looped, refuses, apart, joined, LeadIn, checkLines, checkAnswer}
+use Rattle.spec_laws.specs.UnsettledLaws.{never-ten, holds-not-ten}
 use Rattle.spec_laws.specs.LoopLaws.{loops-pass, none-joins, none-some, check-pass}
 use Rattle.spec.specs.Join.{Joins}
 use Rattle.spec_laws.specs.JoinLaws.{joins-check}
@@ -122,6 +125,32 @@ demand-core = record { core = core-demand }
 
 -- Demand 3
 
+loops-refused : {c v w area after : List ℕ} {a : Answer (Option ℕ)} → Looped c v w area a after → (l : Line)
+    → (a ≡ refused l) ↔ FirstHolds l (loopsLines c v w area)
+loops-refused {c} {v} {w} {area} (refuses {l = k} e) l = (
+  λ q. let s : some k ≡ some l = cc in first-holds (loopsLines c v w area) l .0 (e ∙ s),
+  λ f. let s : some k ≡ some l = sym e ∙ first-holds (loopsLines c v w area) l .1 f in cc,
+)
+loops-refused {c} {v} {w} {area} (apart e d) l = (
+  λ q. absurd (given-not q),
+  λ f. absurd (none-some (sym e ∙ first-holds (loopsLines c v w area) l .1 f)),
+)
+loops-refused {c} {v} {w} {area} (joined e d u) l = (
+  λ q. absurd (given-not q),
+  λ f. absurd (none-some (sym e ∙ first-holds (loopsLines c v w area) l .1 f)),
+)
+
+refusal-untouched : {c v w area after : List ℕ} {l : Line} → Looped c v w area (refused l) after → after ≡ area
+refusal-untouched (refuses e) = refl
+
+loops-settled : (c v w area : List ℕ) (p i : ℕ) → ¬ FirstHolds (line 10 p i) (loopsLines c v w area)
+loops-settled c v w area p i =
+    never-ten c v w (areaLine 0 (leadInRoom c v w) area ∷ []) p i
+    (holds-not-ten 9 0 0 (λ e. omega arith) (ltb (length area) (leadInRoom c v w)), tt)
+
+apart-untouched : {c v w area after : List ℕ} → Looped c v w area (given none) after → after ≡ area
+apart-untouched (apart e d) = refl
+
 loops-demand : {c v w area after : List ℕ} {o : Option ℕ} → Looped c v w area (given o) after → Exact c v w o
 loops-demand {c} {v} {w} {area} (apart e d) =
     let no : (u : List ℕ) → ¬ Joins c v w u = none-joins c v w (loops-pass c v w area e) d in
@@ -172,7 +201,16 @@ check-demand c v w u area0 area1 k e = (
         (passing-append (commands c) u w (pass .1) (pass .0 .1))
 
 pub demand-3 : Demand3
-demand-3 = record { loops = loops-demand; lead-in = lead-in-demand; check = check-demand }
+demand-3 =
+    record {
+      refused-exactly = loops-refused;
+      refused-untouched = refusal-untouched;
+      settled = loops-settled;
+      loops = loops-demand;
+      lead-in = lead-in-demand;
+      apart-untouched = apart-untouched;
+      check = check-demand;
+    }
 
 -- What document 01 says of all plans
 

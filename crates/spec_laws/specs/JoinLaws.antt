@@ -1,5 +1,5 @@
--- Lead-ins of plans and conjugating words are the same thing, also where the words have any letters (words-join, which
--- stands for the reader); and a lead-in is checked by v·u and u·w.
+-- Lead-ins of plans and conjugating words are the same thing, also where the words have any letters; and a lead-in is
+-- checked by v·u and u·w.
 use Prim.Native.Nat.{ℕ}
 use mathlib.Core.Path.{_≡_, sym, _∙_, ap, subst₂}
 use mathlib.Core.Bool.{true}

@@ -2,21 +2,23 @@
 -- decision is exact over plans of bytes.
 use Prim.Native.Nat.{ℕ, _+_}
 use mathlib.Core.Path.{_≡_}
-use mathlib.Core.Bool.{false}
+use mathlib.Core.Bool.{true, false}
 use mathlib.Core.List.{List, [], _∷_, _++_}
 use mathlib.Core.Option.{Option, none, some}
+use mathlib.Core.Logic.{_↔_}
 use native.Mathlib.Omega.{arith}
 use lib.ListN.{length}
 use Rattle.spec.specs.Table.{Line, firstLine}
 use Rattle.spec_laws.specs.TableLaws.{none-left, none-right}
 use Rattle.theory_conjugacy.specs.Decision.{joined?}
-use Rattle.theory_conjugacy.specs.DecisionLaws.{apart-exact}
+use Rattle.theory_conjugacy.specs.DecisionLaws.{joined-exact, apart-exact}
 use Rattle.spec.specs.Catalogue.{commands, catalogueLines}
 use Rattle.spec.specs.Plan.{planLines, Passing}
 use Rattle.spec_laws.specs.PlanLaws.{lines-pass}
 use Rattle.spec.specs.Letters.{letters, alphabet}
 use Rattle.spec.specs.Join.{Joins}
-use Rattle.spec_laws.specs.JoinLaws.{joins-words, joins-passing}
+use Rattle.spec_laws.specs.JoinLaws.{joins-words, joins-passing, words-join}
+use Rattle.spec_laws.specs.StepLaws.{kept}
 use Rattle.spec.specs.Calls.{planLimit, areaLine}
 use Rattle.spec.specs.Loops.{leadInRoom, unsettledLine, loopsLines, leadInLimit, checkLines}
 
@@ -24,7 +26,7 @@ pub none-some : {A : Type 0} {a : A} → none ≡ some a → ⊥
 none-some e = let z : _≡_ {A = ℕ} 0 1 = cc in omega arith
 
 -- two plans that no line refuses
-two-pass : (c v w : List ℕ) (ls : List (Option Line))
+pub two-pass : (c v w : List ℕ) (ls : List (Option Line))
     → firstLine (catalogueLines c ++ planLines 1 planLimit (commands c) v ++ planLines 2 planLimit (commands c) w ++ ls)
     ≡ none → Passing (commands c) v × Passing (commands c) w
 two-pass c v w ls e = (
@@ -47,6 +49,16 @@ pub loops-pass : (c v w area : List ℕ) → firstLine (loopsLines c v w area) �
     → Passing (commands c) v × Passing (commands c) w
 loops-pass c v w area e =
     two-pass c v w (areaLine 0 (leadInRoom c v w) area ∷ unsettledLine 1 c v ∷ unsettledLine 2 c w ∷ []) e
+
+-- the decision is exact over plans of bytes
+pub some-joins : (c v w : List ℕ) → Passing (commands c) v × Passing (commands c) w
+    → (joined? (alphabet c) (letters v) (letters w) ≡ true) ↔ ((u : List ℕ) × Joins c v w u)
+some-joins c v w p = (
+  λ d. let (u, e) = joined-exact (alphabet c) (letters v) (letters w) .0 d in
+      (kept c u, words-join c v w u (p .0) (p .1) e),
+  λ (u, j). joined-exact (alphabet c) (letters v) (letters w)
+      .1 (letters u, joins-words c v w u (p .0) (p .1) (joins-passing c v w u j) .0 j),
+)
 
 pub none-joins : (c v w : List ℕ) → Passing (commands c) v × Passing (commands c) w
     → joined? (alphabet c) (letters v) (letters w) ≡ false → (u : List ℕ) → ¬ Joins c v w u

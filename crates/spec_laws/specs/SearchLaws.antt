@@ -12,7 +12,7 @@ use Rattle.spec.specs.Table.{Line, refused, given, orElse, firstOf, found-step}
 none-not : {A : Type 0} {a : A} → some a ≡ none → ⊥
 none-not e = let z : _≡_ {A = ℕ} 0 1 = cc in omega arith
 
-given-not : {A : Type 0} {a : A} {l : Line} → given a ≡ refused l → ⊥
+pub given-not : {A : Type 0} {a : A} {l : Line} → given a ≡ refused l → ⊥
 given-not e = let z : _≡_ {A = ℕ} 0 1 = cc in omega arith
 
 module _ (p : ℕ → Bool) where
