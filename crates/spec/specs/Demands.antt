@@ -18,10 +18,12 @@ use Rattle.spec.specs.Order.{Earlier}
 use Rattle.spec.specs.Join.{Joins}
 use Rattle.spec.specs.Core.{Swaps, Least, CyclicallyReduced, TakenOff}
 use Rattle.spec.specs.Answers.{CheckedLeadIn}
-use Rattle.spec.specs.Calls.{areaAfter, normalFormAnswer, normalFormArea, coreAnswer, coreArea}
+use Rattle.spec.specs.Calls.{areaAfter, normalFormAnswer, normalFormArea, coreForm, coreAnswer, coreArea}
 use Rattle.spec.specs.Calls.{equalAnswer}
 use Rattle.spec.specs.Loops.{loopsLines, Looped, LeadIn, checkAnswer}
 use Rattle.spec.specs.Framing.{Framed, wellFramed, catalogueOf, plan1Of, plan2Of}
+use Rattle.spec.specs.Listing.{Printed}
+use Rattle.spec.specs.Program.{programLines, programAnswer}
 
 -- Demand 1. A call with the lines ls and the result a is refused exactly by the first line that holds, and gives its
 -- result exactly if none does; a refusal leaves an area as it was.
@@ -87,6 +89,15 @@ pub record FramingDemand : Type 0 where
   pub parts : (s : List ℕ) → wellFramed s ≡ true → Framed s (catalogueOf s) (plan1Of s) (plan2Of s)
   pub whole : {s c v w : List ℕ} → Framed s c v w
       → (wellFramed s ≡ true) × (c ≡ catalogueOf s) × (v ≡ plan1Of s) × (w ≡ plan2Of s)
+
+-- The program. What it prints to an input that is not refused says joined exactly if some u joins the two plans; the
+-- number behind it is that of the letters in the core of either. Line 10 refuses no input.
+pub record ProgramDemand : Type 0 where
+  pub verdict : (s text : List ℕ) (o : Option ℕ) → programAnswer s ≡ given o → Printed (programAnswer s) text
+      → ((l : ℕ) × Printed (given (some l)) text) ↔ ((u : List ℕ) × Joins (catalogueOf s) (plan1Of s) (plan2Of s) u)
+  pub either-core : (s : List ℕ) (l : ℕ) → programAnswer s ≡ given (some l)
+      → (l ≡ length (coreForm (catalogueOf s) (plan1Of s))) × (l ≡ length (coreForm (catalogueOf s) (plan2Of s)))
+  pub settled : (c v w : List ℕ) (p i : ℕ) → ¬ FirstHolds (line 10 p i) (programLines c v w)
 
 -- What document 01 says of all plans: with at most 24 commands each differs from its undo, and all shortest plans of
 -- one effect differ by swaps alone.

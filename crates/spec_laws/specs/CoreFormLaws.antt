@@ -17,7 +17,8 @@ use Rattle.theory_words.specs.Reduce.{reduce}
 use Rattle.theory_words.specs.ReduceLaws.{reduced-~, reduce-reduced, reduce-≈, reduce-fixed, reduce-least}
 use Rattle.theory_words.specs.NormalLaws.{nf-~, nf-reduced, nf-ordered, nf-fixed}
 use Rattle.theory_conjugacy.specs.Turn.{Tight}
-use Rattle.theory_conjugacy.specs.TurnLaws.{tight-along}
+use Rattle.theory_conjugacy.specs.TurnLaws.{tight-along, turns-length}
+use Rattle.theory_conjugacy.specs.ConjugateLaws.{conjugate-cores}
 use Rattle.theory_conjugacy.specs.LeadInLaws.{all-undo}
 use Rattle.theory_conjugacy.specs.Core.{Cores, bare, peel, lead, core}
 use Rattle.theory_conjugacy.specs.CoreLaws.{cores-core, core-product, core-tight, core-reduced, core-length, core-all}
@@ -30,6 +31,8 @@ use Rattle.spec_laws.specs.LettersLaws.{Commands, letters-commands, comm
 use Rattle.spec.specs.Step.{Equal}
 use Rattle.spec_laws.specs.StepLaws.{equal-exact, equal-words, equal-left, equal-sym, words-equal}
 use Rattle.spec_laws.specs.NormalFormLaws.{normal-shortest}
+use Rattle.spec.specs.Join.{Joins}
+use Rattle.spec_laws.specs.JoinLaws.{joins-words, joins-passing}
 use Rattle.spec.specs.Core.{none, Least, Pair, CyclicallyReduced, TakenOff, whole, pair}
 use Rattle.spec_laws.specs.SwapLaws.{words-swaps, swaps-words, least-letters, least-commands, least-reduced}
 use Rattle.spec.specs.Calls.{coreForm}
@@ -177,3 +180,12 @@ module _ (c : List ℕ) where
               no-pair = pairs-tight (coreForm c v)
                   (tight-along (alphabet c) (~-sym (alphabet c) form-~) (core-tight (alphabet c) (letters v)));
             }
+
+  -- joined plans have cores of one length
+  pub cores-long : (v w u : List ℕ) → Passing n v → Passing n w → Joins c v w u
+      → length (coreForm c v) ≡ length (coreForm c w)
+  cores-long v w u h k j =
+      let g = alphabet c in
+      let e = joins-words c v w u h k (joins-passing c v w u j) .0 j in
+      let t = turns-length g (conjugate-cores g (letters u) (letters v) (letters w) e) in
+      omega (arith, t, ~-length g (form-~ v h), ~-length g (form-~ w k))

@@ -24,12 +24,14 @@ use Rattle.spec_laws.specs.CoreFormLaws.{core-of}
 use Rattle.spec_laws.specs.SearchLaws.{given-not}
 use Rattle.spec.specs.Step.{Equal}
 use Rattle.spec.specs.Demands.{Demand1, Demand2, Demand3, Shortest, Exact, CoreOf}
-use Rattle.spec.specs.Demands.{CoreDemand, PlansDemand}
+use Rattle.spec.specs.Demands.{CoreDemand, ProgramDemand, PlansDemand}
 use Rattle.spec.specs.Calls.{planLimit, areaLine, areaAfter, normalFormLines, normalFormAnswer, normalFormArea}
 use Rattle.spec.specs.Calls.{coreForm, coreAnswer, coreArea, equalLines, equalAnswer}
 use Rattle.spec.specs.Answers.{CheckedLeadIn}
 use Rattle.spec.specs.Loops.{leadInRoom, loopsLines, Looped, refuses, apart, joined, LeadIn, checkLines, checkAnswer}
 use Rattle.spec_laws.specs.UnsettledLaws.{never-ten, holds-not-ten}
+use Rattle.spec.specs.Program.{programLines}
+use Rattle.spec_laws.specs.VerdictLaws.{verdict-printed, verdict-cores}
 use Rattle.spec_laws.specs.LoopLaws.{loops-pass, none-joins, none-some, check-pass}
 use Rattle.spec.specs.Join.{Joins}
 use Rattle.spec_laws.specs.JoinLaws.{joins-check}
@@ -211,6 +213,15 @@ demand-3 =
       apart-untouched = apart-untouched;
       check = check-demand;
     }
+
+-- The program
+
+program-settled : (c v w : List ℕ) (p i : ℕ) → ¬ FirstHolds (line 10 p i) (programLines c v w)
+program-settled c v w p i = never-ten c v w [] p i tt
+
+pub demand-program : ProgramDemand
+demand-program =
+    record { verdict = verdict-printed; either-core = verdict-cores; settled = program-settled }
 
 -- What document 01 says of all plans
 

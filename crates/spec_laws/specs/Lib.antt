@@ -17,6 +17,7 @@ pub mod CoreFormLaws
 pub mod CallLaws
 pub mod LoopLaws
 pub mod UnsettledLaws
+pub mod VerdictLaws
 pub mod CodeLaws
 pub mod DemandsMet
 pub mod CasesHold
