@@ -2,27 +2,26 @@
 -- the crate spec_laws proves it (CasesHold).
 use Prim.Native.Nat.{ℕ}
 use mathlib.Core.Path.{_≡_}
-use mathlib.Core.Bool.{true, false}
+use mathlib.Core.Bool.{true}
 use mathlib.Core.List.{List, [], _∷_, _++_}
-use lib.ListN.{length, drop}
-use Rattle.theory_conjugacy.specs.Decision.{joined?}
-use Rattle.spec.specs.Table.{Answer, given}
-use Rattle.spec.specs.Letters.{letters, alphabet}
+use mathlib.Core.Option.{none, some}
+use lib.ListN.{length, drop, replicate}
+use Rattle.spec.specs.Table.{Answer, given, NoneHolds}
 use Rattle.spec.specs.Calls.{normalFormAnswer, normalFormArea, coreAnswer, coreArea, equalAnswer}
-use Rattle.spec.specs.Loops.{checkAnswer, checkArea0, checkArea1}
+use Rattle.spec.specs.Loops.{leadInRoom, loopsLines, Looped, checkAnswer, checkArea0, checkArea1}
 
 -- catalogue K: conflicts 1-2, 2-3, 3-4
 abbrev pub K : List ℕ
 K = 4 ∷ 3 ∷ 1 ∷ 2 ∷ 3 ∷ 0 ∷ 2 ∷ 0 ∷ 3 ∷ 0 ∷ 4 ∷ 0 ∷ []
 
 -- document 01's −1, −2 and −3: the undos of commands 1, 2 and 3
-abbrev undo1 : ℕ
+abbrev pub undo1 : ℕ
 undo1 = 129
 
-abbrev undo2 : ℕ
+abbrev pub undo2 : ℕ
 undo2 = 130
 
-abbrev undo3 : ℕ
+abbrev pub undo3 : ℕ
 undo3 = 131
 
 -- a row of the table, under catalogue K
@@ -33,7 +32,7 @@ pub data Row : Type 0 where
   cored : List ℕ → List ℕ → Row
   -- two equal plans
   equal : List ℕ → List ℕ → Row
-  -- two joined loops v and w, a lead-in u, and the normal form of v·u and of u·w
+  -- two joined loops v and w, a lead-in u that may be written, and the normal form of v·u and of u·w
   joined : List ℕ → List ℕ → List ℕ → List ℕ → Row
   -- two loops that are apart
   apart : List ℕ → List ℕ → Row
@@ -42,17 +41,23 @@ pub data Row : Type 0 where
 abbrev pub Writes : Answer ℕ → List ℕ → List ℕ → List ℕ → Type 0
 Writes answer after area z = (answer ≡ given (length z)) × (after ≡ z ++ drop (length z) area)
 
+-- an area of N(n + m) bytes
+abbrev pub room : List ℕ → List ℕ → List ℕ
+room v w = replicate (leadInRoom K v w) 0
+
 -- the row is what the definitions of the calls yield, in areas that are just large enough
 abbrev pub Yields : Row → Type 0
 Yields (normal v z) = Writes (normalFormAnswer K v v) (normalFormArea K v v) v z
 Yields (cored v z) = Writes (coreAnswer K v v) (coreArea K v v) v z
 Yields (equal v w) = equalAnswer K v w ≡ given true
 Yields (joined v w u z) =
-    (joined? (alphabet K) (letters v) (letters w) ≡ true)
+    NoneHolds (loopsLines K v w (room v w))
+    × Looped K v w (room v w) (given (some (length u))) (u ++ drop (length u) (room v w))
     × (checkAnswer K v w u (v ++ u) (u ++ w) ≡ given (record { yes = true; vu = length z; uw = length z }))
     × (checkArea0 K v w u (v ++ u) (u ++ w) ≡ z ++ drop (length z) (v ++ u))
     × (checkArea1 K v w u (v ++ u) (u ++ w) ≡ z ++ drop (length z) (u ++ w))
-Yields (apart v w) = joined? (alphabet K) (letters v) (letters w) ≡ false
+Yields (apart v w) =
+    NoneHolds (loopsLines K v w (room v w)) × Looped K v w (room v w) (given none) (room v w)
 
 abbrev pub Every : List Row → Type 0
 Every [] = Unit {0}
