@@ -1,10 +1,11 @@
 // The calls on bus plans that are open to callers, each from a crate of its own, and the functions for callers from C.
 // A call takes any bytes as catalogue and plans and answers with a result or with exactly one refusal of document 01's
-// table; a refusal changes no byte of an area. The crate spec defines what each call answers (specs/Calls.antt,
+// table; a refusal changes nothing that was lent. The crate spec defines what each call answers (specs/Calls.antt,
 // specs/Loops.antt) and states what that is worth (specs/Demands.antt).
 
 mod console;
 
+pub use call_catalogue::read_catalogue;
 pub use call_equal::equal;
 pub use call_forms::core;
 pub use call_forms::normal_form;

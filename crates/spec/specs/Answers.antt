@@ -3,6 +3,8 @@ use Prim.Native.Nat.{ℕ}
 use mathlib.Core.Bool.{Bool, true, false}
 use mathlib.Core.Option.{Option, none, some}
 use Rattle.spec.specs.Table.{Answer, refused, given, lineOf}
+use Rattle.spec.specs.declared.Catalogue.{Catalogue}
+use Rattle.spec.specs.declared.Catalogue.the-variants as catalogue
 use Rattle.spec.specs.declared.Written.{Written}
 use Rattle.spec.specs.declared.Written.the-variants as written
 use Rattle.spec.specs.declared.Equality.{Equality}
@@ -12,6 +14,16 @@ use Rattle.spec.specs.declared.Loops.the-variants as loops
 use Rattle.spec.specs.declared.LeadIn.{LeadIn}
 use Rattle.spec.specs.declared.LeadIn.the-variants as lead-in
 use Rattle.spec.specs.declared.Lengths.{Lengths}
+
+-- yes and no as numbers
+abbrev pub yesNo : Bool → ℕ
+yesNo true = 1
+yesNo false = 0
+
+-- the number of commands, or a refusal
+abbrev pub toldCatalogue : Catalogue → Answer ℕ
+toldCatalogue (catalogue.Commands n) = given n
+toldCatalogue (catalogue.Refused r) = refused (lineOf r)
 
 -- the length L of what is written, or a refusal
 abbrev pub toldWritten : Written → Answer ℕ

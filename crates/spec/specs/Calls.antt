@@ -2,7 +2,7 @@
 -- its answer and the final bytes of its area from what is handed in and the area as it was.
 use Prim.Native.Nat.{ℕ}
 use mathlib.Core.Bool.{Bool}
-use mathlib.Core.List.{List, [], _∷_, _++_}
+use mathlib.Core.List.{List, [], _∷_, _++_, map}
 use mathlib.Core.Option.{Option, none, some}
 use lib.ListN.{length, drop}
 use lib.Dec.{ltb}
@@ -11,8 +11,10 @@ use Rattle.theory_words.specs.Alike.{alike?}
 use Rattle.theory_words.specs.Normal.{nf}
 use Rattle.theory_conjugacy.specs.Core.{core}
 use Rattle.spec.specs.Catalogue.{commands, catalogueLines}
+use Rattle.spec.specs.Conflict.{conflict}
 use Rattle.spec.specs.Plan.{planLines}
 use Rattle.spec.specs.Letters.{letters, alphabet, normalForm}
+use Rattle.spec.specs.Answers.{yesNo}
 
 -- the normal form of the core of a plan
 unfoldable pub coreForm : List ℕ → List ℕ → List ℕ
@@ -30,6 +32,28 @@ areaLine i need area = holds (ltb (length area) need) (line 9 0 i)
 abbrev pub areaAfter : Option Line → List ℕ → List ℕ → List ℕ
 areaAfter none bytes area = bytes ++ drop (length bytes) area
 areaAfter (some l) bytes area = area
+
+-- Reading a catalogue: the number of commands, and a lent table that then tells which commands conflict
+
+abbrev pub catalogueAnswer : List ℕ → Answer ℕ
+catalogueAnswer c = orElse (firstLine (catalogueLines c)) (commands c)
+
+-- the numbers that a command can have
+unfoldable pub numbers : List ℕ
+numbers =
+    1 ∷ 2 ∷ 3 ∷ 4 ∷ 5 ∷ 6 ∷ 7 ∷ 8 ∷ 9 ∷ 10 ∷ 11 ∷ 12 ∷ 13 ∷ 14 ∷ 15 ∷ 16 ∷ 17 ∷ 18 ∷ 19 ∷ 20 ∷ 21 ∷ 22 ∷ 23 ∷ 24 ∷ []
+
+-- 24 rows of 24 numbers: number b of row a is 1 if a and b conflict, else 0; above N a number conflicts with itself
+unfoldable pub conflictRows : List ℕ → List (List ℕ)
+conflictRows c = map (λ a. map (λ b. yesNo (conflict c a b)) numbers) numbers
+
+-- the lent table after the call: as it was where a line refuses
+abbrev pub tableAfter : Option Line → List (List ℕ) → List (List ℕ) → List (List ℕ)
+tableAfter none rows table = rows
+tableAfter (some l) rows table = table
+
+abbrev pub catalogueTable : List ℕ → List (List ℕ) → List (List ℕ)
+catalogueTable c table = tableAfter (firstLine (catalogueLines c)) (conflictRows c) table
 
 -- Normal form
 

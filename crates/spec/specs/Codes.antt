@@ -2,21 +2,17 @@
 -- for apart; and minus the refusal number.
 use Prim.Native.Nat.{ℕ, suc}
 use mathlib.Core.Path.{_≡_}
-use mathlib.Core.Bool.{Bool, true, false}
+use mathlib.Core.Bool.{Bool}
 use mathlib.Core.List.{List}
 use mathlib.Core.Option.{Option, none, some}
 use lib.IntN.{ℤ, pos, negℤ}
 use Rattle.spec.specs.Table.{Answer, refused, given}
-use Rattle.spec.specs.Answers.{CheckedLeadIn}
+use Rattle.spec.specs.Answers.{yesNo, CheckedLeadIn}
 use Rattle.spec.specs.Loops.{Looped}
 
 abbrev pub code : {A : Type 0} → (A → ℕ) → Answer A → ℤ
 code f (given a) = pos (f a)
 code f (refused l) = negℤ (pos (l .number))
-
-abbrev pub yesNo : Bool → ℕ
-yesNo true = 1
-yesNo false = 0
 
 abbrev pub leadInCode : Option ℕ → ℕ
 leadInCode none = 0

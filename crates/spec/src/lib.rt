@@ -23,6 +23,12 @@ pub struct Refusal {
     pub place: usize,
 }
 
+// A catalogue that was read: its number of commands. The lent table tells which of them conflict.
+pub enum Catalogue {
+    Commands(usize),
+    Refused(Refusal),
+}
+
 // The length of a plan that stands at the start of the area.
 pub enum Written {
     Length(usize),
