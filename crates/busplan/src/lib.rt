@@ -11,3 +11,13 @@ pub use call_forms::core;
 pub use call_forms::normal_form;
 pub use call_lead_in_check::lead_in_check;
 pub use call_loops::loops;
+
+// The types of the answers.
+pub use spec::Catalogue;
+pub use spec::Equality;
+pub use spec::LeadIn;
+pub use spec::Lengths;
+pub use spec::Loops;
+pub use spec::Reason;
+pub use spec::Refusal;
+pub use spec::Written;
