@@ -4,7 +4,7 @@ use mathlib.Core.Path.{_≡_}
 use mathlib.Core.Bool.{Bool, true, false}
 use mathlib.Core.List.{List}
 use lib.ListN.{length}
-use lib.Dec.{eqb}
+use lib.Dec.{eqb, ltb}
 use Rattle.theory_words.specs.Group.{Reduced}
 use Rattle.theory_words.specs.Reduce.{act}
 use Rattle.spec.specs.Catalogue.{commands}
@@ -46,3 +46,15 @@ pub record Opposed (c w : List ℕ) (conflicts rows : List (List ℕ)) (heights 
   pub table : Conflicts c conflicts
   pub counted : Counted c rows heights z n
   pub reduced : Reduced (alphabet c) z
+
+-- the shorter of two plans, the first if they have one length; and the other
+
+abbrev pub chosen : Bool → List ℕ → List ℕ → List ℕ
+chosen true v w = v
+chosen false v w = w
+
+unfoldable pub shorter : List ℕ → List ℕ → List ℕ
+shorter v w = chosen (ltb (length w) (length v)) w v
+
+unfoldable pub longer : List ℕ → List ℕ → List ℕ
+longer v w = chosen (ltb (length w) (length v)) v w

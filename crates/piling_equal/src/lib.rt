@@ -14,7 +14,9 @@ ghost use Rattle.spec.specs.Letters.{alphabet, letters, normalForm};
 ghost use Rattle.input_checks.specs.Passed.{Passed};
 ghost use Rattle.array_counts.specs.Blank.{blankHeights};
 ghost use Rattle.piling_stacks.specs.Blank.{blankRows};
-ghost use Rattle.piling_equal.specs.Comparing.{Undoable, Undone, Opposed};
+ghost use Rattle.piling_stacks.specs.Piling.{Counted};
+ghost use Rattle.piling_stacks.specs.Pile.{reduced};
+ghost use Rattle.piling_equal.specs.Comparing.{Undoable, Undone, Opposed, shorter, longer};
 
 // Undoes one byte on a piling that has `spare` letters fewer than the plan has bytes up to this one. What of that is
 // spent: nothing where the letter cancels, one by a filler, two by a letter put on. It is put on only if two are spare.
@@ -49,7 +51,7 @@ fn undo_byte(
 
 // Whether the word piled up, of n letters, is that of plan w. If it is, what is left of it never has more letters than
 // w has bytes still to undo, since no equal word is shorter: the rows are wide enough, and at the end nothing is left.
-pub fn equals(
+fn equals(
     w: &[u8],
     conflicts: &[[u16; 24]; 24],
     rows: &mut [[u8; 1024]; 24],
@@ -77,23 +79,48 @@ pub fn equals(
     true
 }
 
-// Whether two plans have the same normal form: v is piled up in rows with no bead, and w is undone on it. The rows are
-// lent, so that the compiler has to take them to overlap the heights: it then changes eight heights at a time.
-fn same(
+// The piling of the shorter plan, in rows with no bead, and its number of letters.
+fn pile_shorter(
     v: &[u8],
     w: &[u8],
     conflicts: &[[u16; 24]; 24],
     rows: &mut [[u8; 1024]; 24],
     heights: &mut [u16; 24],
-) -> bool
+) -> usize
     requires { ⌜ ((c : List ℕ) × Passed c (now conflicts) (now v) × Passed c (now conflicts) (now w)
         × (now rows ≡ blankRows) × (now heights ≡ blankHeights)) ⌝ }
     ensures { λ r. ⌜ ((c : List ℕ) → Passed c (now (conflicts .entry)) (now (v .entry))
         → Passed c (now (conflicts .entry)) (now (w .entry))
-        → (r ≡ true) ↔ (normalForm c (now (v .entry)) ≡ normalForm c (now (w .entry)))) ⌝ }
+        → Counted c (now (rows .exit)) (now (heights .exit))
+        (reduced c (shorter (now (v .entry)) (now (w .entry)))) r) ⌝ }
 {
-    let n = piling_stacks::pile(v, conflicts, rows, heights);
-    equals(w, conflicts, rows, heights, n)
+    if w.len() < v.len() {
+        return piling_stacks::pile(w, conflicts, rows, heights);
+    }
+    piling_stacks::pile(v, conflicts, rows, heights)
+}
+
+// Whether the word piled up, of n letters, is that of the longer plan. The piling is handed over by value: this has one
+// call, so it is inlined and nothing is copied. `equals` has two and is not: lent the rows, the compiler has to take
+// them to overlap the heights, and changes eight heights at a time.
+fn equals_longer(
+    v: &[u8],
+    w: &[u8],
+    conflicts: &[[u16; 24]; 24],
+    mut rows: [[u8; 1024]; 24],
+    mut heights: [u16; 24],
+    n: usize,
+) -> bool
+    requires { ⌜ ((c : List ℕ) × (z : List ℕ)
+        × Opposed c (longer (now v) (now w)) (now conflicts) rows heights n z) ⌝ }
+    ensures { λ r. ⌜ ((c z : List ℕ)
+        → Opposed c (longer (now (v .entry)) (now (w .entry))) (now (conflicts .entry)) rows heights n z
+        → (r ≡ true) ↔ (_≈_ (alphabet c) z (reverse (letters (longer (now (v .entry)) (now (w .entry))))))) ⌝ }
+{
+    if w.len() < v.len() {
+        return equals(v, conflicts, &mut rows, &mut heights, n);
+    }
+    equals(w, conflicts, &mut rows, &mut heights, n)
 }
 
 // Whether two plans have the same normal form. The shorter is piled up: where the lengths differ much, undoing the
@@ -106,8 +133,6 @@ pub fn equal(v: &[u8], w: &[u8], conflicts: &[[u16; 24]; 24]) -> bool
 {
     let mut rows = piling_stacks::blank_rows();
     let mut heights = array_counts::blank_heights();
-    if w.len() < v.len() {
-        return same(w, v, conflicts, &mut rows, &mut heights);
-    }
-    same(v, w, conflicts, &mut rows, &mut heights)
+    let n = pile_shorter(v, w, conflicts, &mut rows, &mut heights);
+    equals_longer(v, w, conflicts, rows, heights, n)
 }
