@@ -3,10 +3,10 @@
 use Prim.Native.Nat.{ℕ}
 use mathlib.Core.Bool.{Bool}
 use mathlib.Core.List.{List, [], _∷_, _++_, map}
-use mathlib.Core.Option.{Option, none, some}
+use mathlib.Core.Option.{Option}
 use lib.ListN.{length, drop}
 use lib.Dec.{ltb}
-use Rattle.spec.specs.Table.{Line, line, holds, firstLine, Answer, orElse}
+use Rattle.spec.specs.Table.{Line, line, holds, firstLine, Answer, orElse, orKept}
 use Rattle.theory_words.specs.Alike.{alike?}
 use Rattle.theory_words.specs.Normal.{nf}
 use Rattle.theory_conjugacy.specs.Core.{core}
@@ -30,8 +30,7 @@ areaLine i need area = holds (ltb (length area) need) (line 9 0 i)
 
 -- an area after a call: as it was where a line refuses, else the bytes written and past them as it was
 abbrev pub areaAfter : Option Line → List ℕ → List ℕ → List ℕ
-areaAfter none bytes area = bytes ++ drop (length bytes) area
-areaAfter (some l) bytes area = area
+areaAfter o bytes area = orKept o (bytes ++ drop (length bytes) area) area
 
 -- Reading a catalogue: the number of commands, and a lent table that then tells which commands conflict
 
@@ -47,13 +46,8 @@ numbers =
 unfoldable pub conflictRows : List ℕ → List (List ℕ)
 conflictRows c = map (λ a. map (λ b. yesNo (conflict c a b)) numbers) numbers
 
--- the lent table after the call: as it was where a line refuses
-abbrev pub tableAfter : Option Line → List (List ℕ) → List (List ℕ) → List (List ℕ)
-tableAfter none rows table = rows
-tableAfter (some l) rows table = table
-
 abbrev pub catalogueTable : List ℕ → List (List ℕ) → List (List ℕ)
-catalogueTable c table = tableAfter (firstLine (catalogueLines c)) (conflictRows c) table
+catalogueTable c table = orKept (firstLine (catalogueLines c)) (conflictRows c) table
 
 -- Normal form
 

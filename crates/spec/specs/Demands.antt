@@ -9,7 +9,7 @@ use mathlib.Core.List.{List, _++_}
 use mathlib.Core.Option.{Option, none, some}
 use mathlib.Core.Logic.{_↔_, _⊎_}
 use lib.ListN.{length, take, drop}
-use Rattle.spec.specs.Table.{Line, line, Answer, refused, given, firstLine, orElse, NoneHolds, FirstHolds}
+use Rattle.spec.specs.Table.{Line, line, Answer, refused, given, firstLine, orElse, orKept, NoneHolds, FirstHolds}
 use Rattle.spec.specs.Catalogue.{commands, countLine}
 use Rattle.spec.specs.Plan.{isCommand}
 use Rattle.spec.specs.Byte.{undone, undoOf}
@@ -18,7 +18,7 @@ use Rattle.spec.specs.Order.{Earlier}
 use Rattle.spec.specs.Join.{Joins}
 use Rattle.spec.specs.Core.{Swaps, Least, CyclicallyReduced, TakenOff}
 use Rattle.spec.specs.Answers.{CheckedLeadIn}
-use Rattle.spec.specs.Calls.{areaAfter, normalFormAnswer, normalFormArea, coreForm, coreAnswer, coreArea}
+use Rattle.spec.specs.Calls.{normalFormAnswer, normalFormArea, coreForm, coreAnswer, coreArea}
 use Rattle.spec.specs.Calls.{equalAnswer}
 use Rattle.spec.specs.Loops.{loopsLines, Looped, LeadIn, checkAnswer}
 use Rattle.spec.specs.Framing.{Framed, wellFramed, catalogueOf, plan1Of, plan2Of}
@@ -26,14 +26,14 @@ use Rattle.spec.specs.Listing.{Printed}
 use Rattle.spec.specs.Program.{programLines, programAnswer}
 
 -- Demand 1. A call with the lines ls and the result a is refused exactly by the first line that holds, and gives its
--- result exactly if none does; a refusal leaves an area as it was.
+-- result exactly if none does; a refusal leaves what was lent as it was.
 pub record Demand1 : Type 1 where
   pub refused-exactly : {A : Type 0} (ls : List (Option Line)) (a : A) (l : Line)
       → (orElse (firstLine ls) a ≡ refused l) ↔ FirstHolds l ls
   pub given-exactly : {A : Type 0} (ls : List (Option Line)) (a : A)
       → (orElse (firstLine ls) a ≡ given a) ↔ NoneHolds ls
-  pub untouched : (ls : List (Option Line)) (bytes area : List ℕ) {l : Line} → FirstHolds l ls
-      → areaAfter (firstLine ls) bytes area ≡ area
+  pub untouched : {A : Type 0} (ls : List (Option Line)) (new old : A) {l : Line} → FirstHolds l ls
+      → orKept (firstLine ls) new old ≡ old
 
 -- z has the effect of v, is no longer than any plan that has it, and is the first of those of its length
 pub record Shortest (c v z : List ℕ) : Type 0 where
@@ -69,8 +69,8 @@ pub record Exact (c v w : List ℕ) (o : Option ℕ) : Type 0 where
 
 -- Demand 3. A loops call is refused exactly by the first line that holds, which is never line 10, and then leaves the
 -- area as it was; one that is not refused answers exactly. With each joined pair comes a lead-in: it joins v to w, is a
--- normal form, has at most N(n + m) letters and fills the first L bytes of the area, which past them is as it was; apart
--- leaves all of it as it was. A lead-in check that is not refused says yes exactly if u joins v to w.
+-- normal form, has at most N(n + m) letters and fills the first L bytes of the area, which past them is as it was.
+-- Apart leaves all of it as it was. A lead-in check that is not refused says yes exactly if u joins v to w.
 pub record Demand3 : Type 0 where
   pub refused-exactly : {c v w area after : List ℕ} {a : Answer (Option ℕ)} → Looped c v w area a after → (l : Line)
       → (a ≡ refused l) ↔ FirstHolds l (loopsLines c v w area)

@@ -57,6 +57,11 @@ abbrev pub orElse : {A : Type 0} → Option Line → A → Answer A
 orElse none a = given a
 orElse (some l) a = refused l
 
+-- what a call leaves of something lent to it: as it was where a line refuses
+abbrev pub orKept : {A : Type 0} → Option Line → A → A → A
+orKept none new old = new
+orKept (some l) new old = old
+
 -- The first number at or after a start, among so many, that passes a test
 
 abbrev pub found-step : Bool → ℕ → Option ℕ → Option ℕ

@@ -11,7 +11,7 @@ use lib.Dec.{ltb}
 use lib.Seq.{take-at, take-append-seam, drop-append-seam}
 use Rattle.theory_words.specs.Alike.{alike?}
 use Rattle.theory_words.specs.AlikeLaws.{alike-exact}
-use Rattle.spec.specs.Table.{Line, line, Answer, refused, given, firstLine, orElse, NoneHolds, FirstHolds}
+use Rattle.spec.specs.Table.{Line, line, Answer, refused, given, firstLine, orElse, orKept, NoneHolds, FirstHolds}
 use Rattle.spec_laws.specs.TableLaws.{none-holds, first-holds, none-left, none-right}
 use Rattle.spec.specs.Catalogue.{commands, catalogueLines}
 use Rattle.spec.specs.Plan.{planLines, Passing}
@@ -52,9 +52,9 @@ given-exactly ls a = (
   λ n. rw (none-holds ls .1 n),
 )
 
-refused-untouched : (ls : List (Option Line)) (bytes area : List ℕ) {l : Line} → FirstHolds l ls
-    → areaAfter (firstLine ls) bytes area ≡ area
-refused-untouched ls bytes area {l} f = rw (first-holds ls l .1 f)
+refused-untouched : {A : Type 0} (ls : List (Option Line)) (new old : A) {l : Line} → FirstHolds l ls
+    → orKept (firstLine ls) new old ≡ old
+refused-untouched ls new old {l} f = rw (first-holds ls l .1 f)
 
 pub demand-1 : Demand1
 demand-1 = record { refused-exactly = refused-exactly; given-exactly = given-exactly; untouched = refused-untouched }
