@@ -10,7 +10,7 @@ use Rattle.theory_words.specs.Stack.{mark}
 use Rattle.theory_words.specs.StackLaws.{Marked, marked}
 use Rattle.theory_words.specs.StackLaws as Stack
 use Rattle.spec.specs.Conflict.{conflict}
-use Rattle.input_chains.specs.Conflicts.{bit}
+use Rattle.spec.specs.Answers.{yesNo}
 use Rattle.spec.specs.AlphabetLaws.{conflict-refl, conflict-sym}
 use Rattle.spec.specs.Byte.{commandOf}
 use Rattle.spec.specs.Letters.{alphabet}
@@ -32,12 +32,12 @@ meets-one own = omega arith
 meets-one (other o) = omega arith
 
 -- the line of command k + 1 tells how many
-pub meets-line : (c : List ℕ) (k b j n : ℕ) → commandOf b ≡ k + 1 → n ≡ bit (conflict c (k + 1) (j + 1))
+pub meets-line : (c : List ℕ) (k b j n : ℕ) → commandOf b ≡ k + 1 → n ≡ yesNo (conflict c (k + 1) (j + 1))
     → Meets k b j n (mark (alphabet c) 0 (j + 1) b)
 meets-line c k b j n e f = go (marked (alphabet c) 0 (j + 1) b)
   where
-    count : (t : Bool) → conflict c (j + 1) (commandOf b) ≡ t → n ≡ bit t
-    count t q = f ∙ ap bit (conflict-sym c (k + 1) (j + 1) ∙ ap (conflict c (j + 1)) (sym e) ∙ q)
+    count : (t : Bool) → conflict c (j + 1) (commandOf b) ≡ t → n ≡ yesNo t
+    count t q = f ∙ ap yesNo (conflict-sym c (k + 1) (j + 1) ∙ ap (conflict c (j + 1)) (sym e) ∙ q)
 
     go : {m : List ℕ} → Marked (alphabet c) 0 (j + 1) b m → Meets k b j n m
     go (Stack.apart q) =

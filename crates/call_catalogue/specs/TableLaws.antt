@@ -2,7 +2,6 @@
 use Prim.Native.Nat.{ℕ, zero, suc, _+_, _<_}
 use native.Mathlib.Omega.{arith}
 use mathlib.Core.Path.{_≡_, refl, sym, _∙_, ap}
-use mathlib.Core.Bool.{Bool, true, false}
 use mathlib.Core.List.{List, [], _∷_, map}
 use mathlib.Core.Option.{none}
 use lib.ListN.{length, getD}
@@ -16,7 +15,7 @@ use Rattle.spec_laws.specs.SearchLaws.{passed-line, refused-line}
 use Rattle.input_catalogue.specs.Checked.{toldChecked}
 use Rattle.input_catalogue.specs.declared.Checked.{Checked}
 use Rattle.input_catalogue.specs.declared.Checked.the-variants.{Passed, Refused}
-use Rattle.input_chains.specs.Conflicts.{bit, Conflicts}
+use Rattle.input_chains.specs.Conflicts.{Conflicts}
 use Rattle.input_conflicts.specs.Reading.{Reading}
 
 -- so many numbers, from a on
@@ -47,10 +46,6 @@ of-numbers : {A : Type 0} (d : A) (f : ℕ → A) (l : List A) → length l ≡ 
 unfolding numbers count
 of-numbers d f l e h = counted d f l 1 24 e h
 
-bit-number : (b : Bool) → bit b ≡ yesNo b
-bit-number true = refl
-bit-number false = refl
-
 conflicts-rows : (c : List ℕ) (rows : List (List ℕ)) → Conflicts c rows → rows ≡ conflictRows c
 unfolding conflictRows
 conflicts-rows c rows k = of-numbers [] (λ a. map (λ b. yesNo (conflict c a b)) numbers) rows (k .tall) row
@@ -58,7 +53,7 @@ conflicts-rows c rows k = of-numbers [] (λ a. map (λ b. yesNo (conflict c a b)
     row : (i : ℕ) → i < 24 → getD rows i [] ≡ map (λ b. yesNo (conflict c (i + 1) b)) numbers
     row i h =
         of-numbers 0 (λ b. yesNo (conflict c (i + 1) b)) (getD rows i []) (k .wide i h)
-        (λ j g. k .tells i j h g ∙ bit-number (conflict c (i + 1) (j + 1)))
+        (λ j g. k .tells i j h g)
 
 module _ {c : List ℕ} {rows : List (List ℕ)} {r : Checked} (d : Reading c rows r) where
   -- the check passed, and the rows are handed over

@@ -4,7 +4,7 @@ use mathlib.Core.Path.{_≡_}
 use mathlib.Core.List.{List}
 use lib.ListN.{length, getD}
 use lib.Dec.{eqb}
-use Rattle.input_chains.specs.Conflicts.{bit}
+use Rattle.spec.specs.Answers.{yesNo}
 use Rattle.spec.specs.Conflict.{conflict}
 use Rattle.theory_conjugacy.specs.Part.{relabel-step}
 
@@ -15,4 +15,4 @@ pub record Relabelled (low high : ℕ) (before after : List ℕ) : Type 0 where
 
 -- the line tells by 1 or 0 which commands conflict with command i + 1
 abbrev pub LineOf : List ℕ → ℕ → List ℕ → Type 0
-LineOf c i line = (j : ℕ) → j < 24 → getD line j 0 ≡ bit (conflict c (i + 1) (j + 1))
+LineOf c i line = (j : ℕ) → j < 24 → getD line j 0 ≡ yesNo (conflict c (i + 1) (j + 1))

@@ -11,7 +11,7 @@ use borrow.Author.Tests.{eqb-true, eq-eqb, ne-eqb}
 use lib.Dec.{eqb}
 use lib.ListN.{length, getD, set, drop, length-set, drop-of-length-le}
 use lib.Seq.{getD-set-same, getD-set-other, drop-cons}
-use Rattle.input_chains.specs.Conflicts.{bit}
+use Rattle.spec.specs.Answers.{yesNo}
 use Rattle.spec.specs.Conflict.{conflict}
 use Rattle.spec.specs.Letters.{alphabet}
 use Rattle.theory_words.specs.Filter.{keepIf}
@@ -109,23 +109,23 @@ module _ (c : List ℕ) where
   merged-none flags i j n h = rw (ne-eqb (getD flags j 0) 1 n) h
 
   pub merged-apart : {lab : ℕ → ℕ} {labels : List ℕ} (flags : List ℕ) (i j : ℕ) → getD flags j 0 ≡ 1
-      → bit (conflict c i (j + 1)) ≡ 0
+      → yesNo (conflict c i (j + 1)) ≡ 0
       → LabelsOf lab labels → LabelsOf (merge-row (alphabet c) i (flaggedAt flags j) lab) labels
   unfolding merge-row keepIf merge merge-step
   merged-apart {lab} {labels} flags i j e z h = rw (eq-eqb (getD flags j 0) 1 e) (go (conflict c i (j + 1)) z)
     where
-      go : (t : Bool) → bit t ≡ 0 → LabelsOf (merge-step t (lab i) (lab (j + 1)) lab) labels
+      go : (t : Bool) → yesNo t ≡ 0 → LabelsOf (merge-step t (lab i) (lab (j + 1)) lab) labels
       go true f = absurd (omega arith)
       go false f = h
 
   pub merged-both : {labels : List ℕ} (lab : ℕ → ℕ) (flags : List ℕ) (i j : ℕ) → getD flags j 0 ≡ 1
-      → (bit (conflict c i (j + 1)) ≡ 0 → ⊥)
+      → (yesNo (conflict c i (j + 1)) ≡ 0 → ⊥)
       → LabelsOf (λ k. relabel (lab i) (lab (j + 1)) (lab k)) labels
       → LabelsOf (merge-row (alphabet c) i (flaggedAt flags j) lab) labels
   unfolding merge-row keepIf merge merge-step
   merged-both {labels} lab flags i j e n h = rw (eq-eqb (getD flags j 0) 1 e) (go (conflict c i (j + 1)) n)
     where
-      go : (t : Bool) → (bit t ≡ 0 → ⊥) → LabelsOf (merge-step t (lab i) (lab (j + 1)) lab) labels
+      go : (t : Bool) → (yesNo t ≡ 0 → ⊥) → LabelsOf (merge-step t (lab i) (lab (j + 1)) lab) labels
       go true f = h
       go false f = absurd (f refl)
 

@@ -9,7 +9,9 @@ use lib.ListN.{getD}
 use Rattle.theory_words.specs.All.{All, all-map}
 use Rattle.theory_words.specs.Normal.{meets}
 use Rattle.spec.specs.Conflict.{conflict}
-use Rattle.input_chains.specs.Conflicts.{bit, Conflicts}
+use Rattle.input_chains.specs.Conflicts.{Conflicts}
+use Rattle.spec.specs.Answers.{yesNo}
+use Rattle.input_chains.specs.MarkingLaws.{yes-low}
 use Rattle.spec.specs.AlphabetLaws.{conflict-refl, conflict-sym}
 use Rattle.spec.specs.Letters.{alphabet}
 use Rattle.array_sets.specs.Sets.{In, Clear, Table, Added, empty}
@@ -41,30 +43,26 @@ marks-add k low high {s = s} {s′} {R} a m = record {
     only j l (inl e) = let h : j + 1 ≡ k = omega arith in List·Memᴰ·head h
     only j l (inr h) = List·Memᴰ·tail (m .only j l h)
 
-bit-one : (t : Bool) → bit t ≡ 1 → t ≡ true
-bit-one true e = refl
-bit-one false e = absurd (omega arith)
-
-bit-small : (t : Bool) → bit t ≤ 1
-bit-small true = omega arith
-bit-small false = omega arith
+yes-one : (t : Bool) → yesNo t ≡ 1 → t ≡ true
+yes-one true e = refl
+yes-one false e = absurd (omega arith)
 
 -- a catalogue's table of conflicts, and the line of a command in it
 module _ {c : List ℕ} {rows : List (List ℕ)} (table : Conflicts c rows) where
   pub conflicts-table : Table rows
   conflicts-table = record {
     wide = table .wide;
-    small = λ i j l h. rw (table .tells i j l h) (bit-small (conflict c (i + 1) (j + 1)));
-    own = λ i l. table .tells i i l l ∙ ap bit (conflict-refl c (i + 1));
+    small = λ i j l h. rw (table .tells i j l h) (yes-low (conflict c (i + 1) (j + 1)));
+    own = λ i l. table .tells i i l l ∙ ap yesNo (conflict-refl c (i + 1));
     mirrored = λ i j l h.
-        table .tells i j l h ∙ ap bit (conflict-sym c (i + 1) (j + 1)) ∙ sym (table .tells j i h l);
+        table .tells i j l h ∙ ap yesNo (conflict-sym c (i + 1) (j + 1)) ∙ sym (table .tells j i h l);
   }
 
   module _ (k : ℕ) (low : 1 ≤ k) (high : k ≤ 24) where
-    line-at : (j : ℕ) → j < 24 → getD (getD rows (k - 1) []) j 0 ≡ bit (conflict c k (j + 1))
+    line-at : (j : ℕ) → j < 24 → getD (getD rows (k - 1) []) j 0 ≡ yesNo (conflict c k (j + 1))
     line-at j l =
         let e : k - 1 + 1 ≡ k = omega arith in
-        table .tells (k - 1) j (omega arith) l ∙ ap (λ (i : ℕ). bit (conflict c i (j + 1))) e
+        table .tells (k - 1) j (omega arith) l ∙ ap (λ (i : ℕ). yesNo (conflict c i (j + 1))) e
 
     pub clear-meets : {s R : List ℕ} → Marks s R → Clear (getD rows (k - 1) []) s → meets (alphabet c) k R ≡ false
     unfolding meets
@@ -93,4 +91,4 @@ module _ {c : List ℕ} {rows : List (List ℕ)} (table : Conflicts c rows) wher
 
     pub meets-clear : {s R : List ℕ} → Marks s R → meets (alphabet c) k R ≡ false → Clear (getD rows (k - 1) []) s
     meets-clear m e j l a b =
-        true≢false (sym (meets-held (m .only j l b) (bit-one (conflict c k (j + 1)) (sym (line-at j l) ∙ a))) ∙ e)
+        true≢false (sym (meets-held (m .only j l b) (yes-one (conflict c k (j + 1)) (sym (line-at j l) ∙ a))) ∙ e)

@@ -9,7 +9,7 @@ use lib.ListN.{length, getD, set, length-set}
 use lib.Seq.{getD-set-same, getD-set-other}
 use lib.Dec.{eqb}
 use borrow.Author.Tests.{eq-eqb, ne-eqb}
-use Rattle.input_chains.specs.Conflicts.{bit}
+use Rattle.spec.specs.Answers.{yesNo}
 use Rattle.spec.specs.Catalogue.{stands}
 use Rattle.input_chains.specs.Marking.{cell, Shape, put, pair, pairs, note, notes, markedIf}
 
@@ -18,9 +18,13 @@ abbrev pub over : Bool → ℕ → ℕ
 over true v = 1
 over false v = v
 
-pub over-bit : (p q : Bool) → over p (bit q) ≡ bit (p || q)
-over-bit true q = refl
-over-bit false q = refl
+pub over-yes : (p q : Bool) → over p (yesNo q) ≡ yesNo (p || q)
+over-yes true q = refl
+over-yes false q = refl
+
+pub yes-low : (t : Bool) → yesNo t ≤ 1
+yes-low true = omega arith
+yes-low false = omega arith
 
 module _ (rows : List (List ℕ)) (s : Shape rows) (i j : ℕ) (hi : i < 24) (hj : j < 24) where
   row-same : getD (put rows i j) i [] ≡ set (getD rows i []) j 1
@@ -66,16 +70,16 @@ module _ (rows : List (List ℕ)) (s : Shape rows) (a b : ℕ) (ha : (1 ≤ a) �
   pub pair-shape : Shape (pair rows a b)
   pair-shape = put-shape (put rows (a - 1) (b - 1)) first-put-shape (b - 1) (a - 1) (omega arith) (omega arith)
 
-  pub pair-cell : (k l : ℕ) (q : Bool) → cell rows k l ≡ bit q
+  pub pair-cell : (k l : ℕ) (q : Bool) → cell rows k l ≡ yesNo q
       → cell (pair rows a b) k l
-      ≡ bit ((eqb (k + 1) b && eqb (l + 1) a) || ((eqb (k + 1) a && eqb (l + 1) b) || q))
+      ≡ yesNo ((eqb (k + 1) b && eqb (l + 1) a) || ((eqb (k + 1) a && eqb (l + 1) b) || q))
   pair-cell k l q e =
       put-cell (put rows (a - 1) (b - 1)) first-put-shape (b - 1) (a - 1) (omega arith) (omega arith) k l
       ∙ rw (
         put-cell rows s (a - 1) (b - 1) (omega arith) (omega arith) k l,
         e,
-        over-bit,
-        over-bit,
+        over-yes,
+        over-yes,
         eqb-pred k a (ha .0),
         eqb-pred l a (ha .0),
         eqb-pred k b (hb .0),
@@ -112,16 +116,16 @@ module _ (a : ℕ) (ha : (1 ≤ a) × (a ≤ 24)) where
   pairs-shape (b ∷ bs) rows f s = pairs-shape bs (pair rows a b) (f .1) (pair-shape rows s a b ha (f .0))
 
   pub pairs-cell : (bs : List ℕ) (rows : List (List ℕ)) → Fit bs → Shape rows
-      → (k l : ℕ) (q : Bool) → cell rows k l ≡ bit q
+      → (k l : ℕ) (q : Bool) → cell rows k l ≡ yesNo q
       → cell (pairs rows a bs) k l
-      ≡ bit ((eqb (l + 1) a && stands (k + 1) bs) || ((eqb (k + 1) a && stands (l + 1) bs) || q))
+      ≡ yesNo ((eqb (l + 1) a && stands (k + 1) bs) || ((eqb (k + 1) a && stands (l + 1) bs) || q))
   unfolding pairs stands
   pairs-cell [] rows f s k l q e = e ∙ simp and-false
   pairs-cell (b ∷ bs) rows f s k l q e =
       pairs-cell bs (pair rows a b) (f .1) (pair-shape rows s a b ha (f .0)) k l
       ((eqb (k + 1) b && eqb (l + 1) a) || ((eqb (k + 1) a && eqb (l + 1) b) || q))
       (pair-cell rows s a b ha (f .0) k l q e)
-      ∙ ap bit
+      ∙ ap yesNo
       (gather-and (eqb (k + 1) a) (eqb (l + 1) a) (eqb (k + 1) b) (stands (k + 1) bs) (eqb (l + 1) b)
       (stands (l + 1) bs) q)
 
@@ -142,15 +146,15 @@ module _ (a : ℕ) (ha : (1 ≤ a) × (a ≤ 24)) where
   notes-shape (b ∷ bs) rows f s = notes-shape bs (note rows a b) (f .1) (note-shape b rows (f .0) s)
 
   pub notes-cell : (bs : List ℕ) (rows : List (List ℕ)) → Fit bs → Shape rows
-      → (k l : ℕ) (q : Bool) → cell rows k l ≡ bit q
-      → cell (notes rows a bs) k l ≡ bit ((eqb (k + 1) a && stands (l + 1) bs) || q)
+      → (k l : ℕ) (q : Bool) → cell rows k l ≡ yesNo q
+      → cell (notes rows a bs) k l ≡ yesNo ((eqb (k + 1) a && stands (l + 1) bs) || q)
   unfolding notes stands
   notes-cell [] rows f s k l q e = e ∙ simp and-false
   notes-cell (b ∷ bs) rows f s k l q e =
       notes-cell bs (note rows a b) (f .1) (note-shape b rows (f .0) s) k l ((eqb (k + 1) a && eqb (l + 1) b) || q)
       (put-cell rows s (a - 1) (b - 1) (omega arith) (omega arith) k l
-      ∙ rw (e, over-bit, eqb-pred k a (ha .0), eqb-pred l b (f .0 .0)))
-      ∙ ap bit (spread (eqb (k + 1) a) (eqb (l + 1) b) (stands (l + 1) bs) q)
+      ∙ rw (e, over-yes, eqb-pred k a (ha .0), eqb-pred l b (f .0 .0)))
+      ∙ ap yesNo (spread (eqb (k + 1) a) (eqb (l + 1) b) (stands (l + 1) bs) q)
 
 pub marked-if : (f : ℕ) (rows : List (List ℕ)) (a b : ℕ) → 0 < f → pair rows a b ≡ markedIf f rows a b
 marked-if zero rows a b h = absurd (omega arith)

@@ -9,7 +9,7 @@ use lib.ListN.{length, getD, drop, drop-of-length-le}
 use lib.Seq.{drop-cons}
 use borrow.Author.Tests.{eq-eqb, ne-eqb}
 use Rattle.spec.specs.Catalogue.{stands}
-use Rattle.input_chains.specs.Conflicts.{bit}
+use Rattle.spec.specs.Answers.{yesNo}
 use Rattle.input_chains.specs.Marking.{Shape, pairs, member, members, markedIf}
 use Rattle.input_chains.specs.MarkingLaws.{Fit, pair-shape}
 
@@ -28,7 +28,7 @@ members-above k (zero ∷ fs) x h = members-above (k + 1) fs x (omega arith)
 members-above k (suc f ∷ fs) x h = rw (ne-eqb x (k + 1) (omega arith)) (members-above (k + 1) fs x (omega arith))
 
 -- a command stands among them if its flag is set
-pub members-stand : (k : ℕ) (fs : List ℕ) (j : ℕ) (t : Bool) → j < length fs → getD fs j 0 ≡ bit t
+pub members-stand : (k : ℕ) (fs : List ℕ) (j : ℕ) (t : Bool) → j < length fs → getD fs j 0 ≡ yesNo t
     → stands (k + j + 1) (members k fs) ≡ t
 unfolding members stands
 members-stand k [] j t h e = absurd (omega arith)

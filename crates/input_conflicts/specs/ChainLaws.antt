@@ -11,12 +11,13 @@ use borrow.Author.Tests.{ne-eqb, lt-ltb, le-ltb}
 use Rattle.spec.specs.Catalogue.{commands, records, head, ends, chain, stands}
 use Rattle.spec.specs.AlphabetLaws.{within-over}
 use Rattle.spec_laws.specs.CatalogueLaws.{no-chain}
-use Rattle.input_chains.specs.Conflicts.{bit, Conflicts}
+use Rattle.input_chains.specs.Conflicts.{Conflicts}
+use Rattle.spec.specs.Answers.{yesNo}
 use Rattle.spec.specs.Conflict.{conflict}
 use Rattle.input_chains.specs.Marking.{cell, Shape, pairs}
 use Rattle.input_conflicts.specs.MarkedRows.{Blank, diagonal, Met}
 use Rattle.input_conflicts.specs.Known.{met, Chained}
-use Rattle.input_chains.specs.MarkingLaws.{Fit, over-bit, pairs-shape, pairs-cell}
+use Rattle.input_chains.specs.MarkingLaws.{Fit, over-yes, pairs-shape, pairs-cell}
 use Rattle.input_conflicts.specs.MarkedRowsLaws.{ltb-more, diagonal-shape, diagonal-cell}
 use Rattle.input_catalogue.specs.Sound.{Sound}
 
@@ -64,7 +65,7 @@ chained-again c s a la ha {rows} bs fit same m e =
     room : (1 ≤ a) × (a ≤ 24)
     room = (la, omega (arith, s .framed .few))
 
-    marks : (i j : ℕ) → i < 24 → j < 24 → cell (pairs rows a bs) i j ≡ bit (met c (a + 1) i j)
+    marks : (i j : ℕ) → i < 24 → j < 24 → cell (pairs rows a bs) i j ≡ yesNo (met c (a + 1) i j)
     marks i j hi hj =
         rw (
           pairs-cell a room bs rows fit (m .shape) i j (met c a i j) (m .marks i j hi hj),
@@ -76,7 +77,7 @@ chained-again c s a la ha {rows} bs fit same m e =
           ltb-more (i + 1) a,
           ltb-more (j + 1) a,
         )
-        (ap bit
+        (ap yesNo
         (merge (eqb (i + 1) a) (ltb (i + 1) a) (eqb (j + 1) a) (ltb (j + 1) a) (stands (j + 1) (chain c (i + 1)))
         (stands (i + 1) (chain c (j + 1)))))
 
@@ -96,25 +97,25 @@ chained-end c {a} h m =
           m .marks i j hi hj ∙ rw (chain-below c a (i + 1) (j + 1) h, chain-below c a (j + 1) (i + 1) h);
     }
 
-bit-true : (t : Bool) → (bit t ≡ 0 → ⊥) → t ≡ true
-bit-true true h = refl
-bit-true false h = absurd (h refl)
+yes-true : (t : Bool) → (yesNo t ≡ 0 → ⊥) → t ≡ true
+yes-true true h = refl
+yes-true false h = absurd (h refl)
 
-bit-false : (t : Bool) → bit t ≡ 0 → t ≡ false
-bit-false true e = absurd (omega arith)
-bit-false false e = refl
+no-false : (t : Bool) → yesNo t ≡ 0 → t ≡ false
+no-false true e = absurd (omega arith)
+no-false false e = refl
 
 module _ (c : List ℕ) {rows : List (List ℕ)} (m : Met c rows) (a : ℕ) (l : 1 ≤ a) (h : a ≤ 24) where
-  own-cell : cell rows (a - 1) (a - 1) ≡ bit (stands a (chain c a))
+  own-cell : cell rows (a - 1) (a - 1) ≡ yesNo (stands a (chain c a))
   own-cell =
       let e : a - 1 + 1 ≡ a = omega arith in
       m .marks (a - 1) (a - 1) (omega arith) (omega arith) ∙ rw (e, or-self)
 
   pub met-own : (cell rows (a - 1) (a - 1) ≡ 0 → ⊥) → stands a (chain c a) ≡ true
-  met-own n = bit-true (stands a (chain c a)) (λ e. n (own-cell ∙ e))
+  met-own n = yes-true (stands a (chain c a)) (λ e. n (own-cell ∙ e))
 
   pub met-not : cell rows (a - 1) (a - 1) ≡ 0 → stands a (chain c a) ≡ false
-  met-not e = bit-false (stands a (chain c a)) (sym own-cell ∙ e)
+  met-not e = no-false (stands a (chain c a)) (sym own-cell ∙ e)
 
 eqb-up : (i j : ℕ) → eqb (i + 1) (j + 1) ≡ eqb i j
 eqb-up i j = rw (add-one i, add-one j) (eqb·suc-suc i j)
@@ -127,7 +128,7 @@ met-conflicts c {rows} m =
     shape : Shape (diagonal rows 24)
     shape = diagonal-shape rows (m .shape) 24 (omega arith)
 
-    tells : (i j : ℕ) → i < 24 → j < 24 → cell (diagonal rows 24) i j ≡ bit (conflict c (i + 1) (j + 1))
+    tells : (i j : ℕ) → i < 24 → j < 24 → cell (diagonal rows 24) i j ≡ yesNo (conflict c (i + 1) (j + 1))
     tells i j hi hj =
         diagonal-cell rows (m .shape) 24 (omega arith) i j
-        ∙ rw (lt-ltb i 24 hi, m .marks i j hi hj, over-bit, eqb-up i j)
+        ∙ rw (lt-ltb i 24 hi, m .marks i j hi hj, over-yes, eqb-up i j)

@@ -7,7 +7,7 @@ use mathlib.Core.List.{List}
 use lib.ListN.{length, getD}
 use lib.Dec.{ltb}
 use Rattle.spec.specs.Catalogue.{records, head, ends, chain, stands}
-use Rattle.input_chains.specs.Conflicts.{bit}
+use Rattle.spec.specs.Answers.{yesNo}
 use Rattle.input_chains.specs.Marking.{cell, Shape}
 
 -- command i + 1 or j + 1 is below a and has the other in its chain
@@ -17,7 +17,7 @@ met c a i j = (ltb (i + 1) a && stands (j + 1) (chain c (i + 1))) || (ltb (j + 1
 -- the marks after the chains of the commands below a
 pub record Chained (c : List ℕ) (a : ℕ) (rows : List (List ℕ)) : Type 0 where
   pub shape : Shape rows
-  pub marks : (i j : ℕ) → i < 24 → j < 24 → cell rows i j ≡ bit (met c a i j)
+  pub marks : (i j : ℕ) → i < 24 → j < 24 → cell rows i j ≡ yesNo (met c a i j)
 
 -- no command is known for any head
 pub record NoneKnown (firsts : List ℕ) : Type 0 where
@@ -30,7 +30,7 @@ pub record Walked (c : List ℕ) (a : ℕ) (own : List (List ℕ)) (h b : ℕ) :
   pub below : b < a
   pub heads : head c b ≡ h
   pub ending : ends c (records c) h ≡ true
-  pub tells : (j : ℕ) → j < 24 → cell own (b - 1) j ≡ bit (stands (j + 1) (chain c b))
+  pub tells : (j : ℕ) → j < 24 → cell own (b - 1) j ≡ yesNo (stands (j + 1) (chain c b))
 
 -- the first command below a with each head, or 0; the rows of a and above are blank
 pub record Known (c : List ℕ) (a : ℕ) (own : List (List ℕ)) (firsts : List ℕ) : Type 0 where

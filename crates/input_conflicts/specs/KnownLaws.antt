@@ -11,7 +11,7 @@ use lib.Seq.{getD-set-same, getD-set-other}
 use lib.Dec.{eqb}
 use borrow.Author.Tests.{eq-eqb, ne-eqb}
 use Rattle.spec.specs.Catalogue.{commands, records, head, headPlace, ends, chain, stands}
-use Rattle.input_chains.specs.Conflicts.{bit}
+use Rattle.spec.specs.Answers.{yesNo}
 use Rattle.input_catalogue.specs.Sound.{Sound}
 use Rattle.input_catalogue.specs.SoundLaws.{head-at}
 use Rattle.input_chains.specs.Marking.{cell, pairs, notes, members}
@@ -117,12 +117,12 @@ module _ (c : List ℕ) (s : Sound c) (a : ℕ) (la : 1 ≤ a) (ha : a ≤ comma
         walked = λ x lx p. go x lx p (ℕ-discrete x h);
       })
     where
-      cells : (i j : ℕ) → i < 24 → j < 24 → (q : Bool) → cell own i j ≡ bit q
-          → cell (notes own a (chain c a)) i j ≡ bit ((eqb (i + 1) a && stands (j + 1) (chain c a)) || q)
+      cells : (i j : ℕ) → i < 24 → j < 24 → (q : Bool) → cell own i j ≡ yesNo q
+          → cell (notes own a (chain c a)) i j ≡ yesNo ((eqb (i + 1) a && stands (j + 1) (chain c a)) || q)
       cells i j hi hj q f = notes-cell a (la, few) (chain c a) own chain-fit (k .shape) i j q f
 
-      other : (i j : ℕ) → i < 24 → j < 24 → (i + 1 ≡ a → ⊥) → (q : Bool) → cell own i j ≡ bit q
-          → cell (notes own a (chain c a)) i j ≡ bit q
+      other : (i j : ℕ) → i < 24 → j < 24 → (i + 1 ≡ a → ⊥) → (q : Bool) → cell own i j ≡ yesNo q
+          → cell (notes own a (chain c a)) i j ≡ yesNo q
       other i j hi hj n q f = cells i j hi hj q f ∙ rw (ne-eqb (i + 1) a n)
 
       go : (x : ℕ) → x < 256 → 0 < getD (set firsts h a) x 0 → Dec (x ≡ h)

@@ -4,7 +4,7 @@ use mathlib.Core.Path.{_≡_}
 use mathlib.Core.Bool.{_||_}
 use mathlib.Core.List.{List}
 use Rattle.spec.specs.Catalogue.{chain, stands}
-use Rattle.input_chains.specs.Conflicts.{bit}
+use Rattle.spec.specs.Answers.{yesNo}
 use Rattle.input_chains.specs.Marking.{cell, Shape, put}
 
 -- no mark is set
@@ -21,4 +21,4 @@ diagonal rows (suc k) = put (diagonal rows k) k k
 pub record Met (c : List ℕ) (rows : List (List ℕ)) : Type 0 where
   pub shape : Shape rows
   pub marks : (i j : ℕ) → i < 24 → j < 24
-      → cell rows i j ≡ bit (stands (j + 1) (chain c (i + 1)) || stands (i + 1) (chain c (j + 1)))
+      → cell rows i j ≡ yesNo (stands (j + 1) (chain c (i + 1)) || stands (i + 1) (chain c (j + 1)))

@@ -2,7 +2,6 @@
 use Prim.Native.Nat.{ℕ, _+_, _-_, _<_, _≤_}
 use native.Mathlib.Omega.{arith}
 use native.Mathlib.Decide.{ℕ-discrete}
-use mathlib.Core.Bool.{Bool, true, false}
 use mathlib.Core.Path.{_≡_, refl, sym, _∙_, ap, subst}
 use mathlib.Core.List.{List, _∷_, head-eq-of-cons-eq}
 use lib.ListN.{length, getD, set, length-set}
@@ -13,7 +12,8 @@ use Rattle.theory_words.specs.TraceLaws.{pick-length}
 use Rattle.theory_words.specs.Stack.{proj, mark}
 use Rattle.theory_words.specs.StackLaws.{proj-length, proj-pick, proj-first, proj-front}
 use Rattle.spec.specs.Conflict.{conflict}
-use Rattle.input_chains.specs.Conflicts.{bit}
+use Rattle.spec.specs.Answers.{yesNo}
+use Rattle.input_chains.specs.MarkingLaws.{yes-low}
 use Rattle.spec.specs.Byte.{commandOf}
 use Rattle.spec.specs.Letters.{alphabet}
 use Rattle.input_plan.specs.Lettered.{Lettered}
@@ -28,11 +28,7 @@ use Rattle.long_stacks.specs.MeetsLaws.{meets-put, meets-cut, meets-low}
 pub record Lined (c line : List ℕ) (k : ℕ) : Type 0 where
   pub within : k < 24
   pub wide : length line ≡ 24
-  pub tells : (j : ℕ) → j < 24 → getD line j 0 ≡ bit (conflict c (k + 1) (j + 1))
-
-bit-low : (t : Bool) → bit t ≤ 1
-bit-low true = omega arith
-bit-low false = omega arith
+  pub tells : (j : ℕ) → j < 24 → getD line j 0 ≡ yesNo (conflict c (k + 1) (j + 1))
 
 module _ {c word under link tops blanks : List ℕ} {i k : ℕ} {x : List ℕ}
     (s : Stacks c word under link tops blanks i x) where
@@ -63,7 +59,7 @@ module _ {c word under link tops blanks : List ℕ} {i k : ℕ} {x : List ℕ}
     letter-meets b j e l = meets-line c k b j (getD line j 0) e (n .tells j l)
 
     line-one : (j : ℕ) → j < 24 → getD line j 0 ≤ 1
-    line-one j l = rw (n .tells j l) (bit-low (conflict c (k + 1) (j + 1)))
+    line-one j l = rw (n .tells j l) (yes-low (conflict c (k + 1) (j + 1)))
 
     stacks-count : (j : ℕ) → j < 24 → getD blanks j 0 ≤ 50177
     stacks-count j l =

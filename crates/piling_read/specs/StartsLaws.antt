@@ -2,13 +2,14 @@
 use Prim.Native.Nat.{ℕ, _+_, _-_, _<_, _≤_}
 use mathlib.Core.Path.{_≡_, sym, _∙_, ap, subst}
 use mathlib.Core.List.{List, []}
-use mathlib.Core.Bool.{Bool, true, false}
 use native.Mathlib.Omega.{arith}
 use native.Mathlib.Decide.{decLt}
 use lib.Bits.{and-le-l, and-le-r}
 use lib.ListN.{length, getD}
+use Rattle.spec.specs.Answers.{yesNo}
 use Rattle.spec.specs.Conflict.{conflict}
-use Rattle.input_chains.specs.Conflicts.{bit, Conflicts}
+use Rattle.input_chains.specs.Conflicts.{Conflicts}
+use Rattle.input_chains.specs.MarkingLaws.{yes-low}
 use Rattle.spec.specs.AlphabetLaws.{conflict-refl, conflict-sym}
 use Rattle.array_counts.specs.Blank.{blankHeights, Ones}
 use Rattle.array_counts.specs.BlankLaws.{blank-zero, blank-many}
@@ -56,12 +57,8 @@ module _ {table : List (List ℕ)} {counts free : List ℕ} {j : ℕ} (n : Count
   counting-line (c, t) = record {
     many = n .wide;
     wide = t .wide j l;
-    holds = λ i h. omega (arith, t .tells j i l h, bit-low (conflict c (j + 1) (i + 1)));
+    holds = λ i h. omega (arith, t .tells j i l h, yes-low (conflict c (j + 1) (i + 1)));
   }
-    where
-      bit-low : (b : Bool) → bit b ≤ 1
-      bit-low true = omega arith
-      bit-low false = omega arith
 
   module _ {left : List ℕ} (a : Changed without (getD table j []) free left) where
     left-one : (k : ℕ) → k < 24 → getD left k 0 ≤ 1
@@ -109,13 +106,13 @@ module _ {c : List ℕ} {table : List (List ℕ)} {starts : List ℕ} {k : ℕ} 
   start-low = go (decLt k (getD starts k 0))
     where
       go : Dec (k < getD starts k 0) → getD starts k 0 ≤ k
-      go (yes h) = omega (arith, s .apart k l k h, t .tells k k l l, ap bit (conflict-refl c (k + 1)))
+      go (yes h) = omega (arith, s .apart k l k h, t .tells k k l l, ap yesNo (conflict-refl c (k + 1)))
       go (no h) = omega arith
 
   start-apart : (i : ℕ) → i < getD starts k 0 → getD (getD table k []) i 0 ≡ 0
   start-apart i h =
       let m : i < 24 = omega (arith, start-low) in
-      t .tells k i l m ∙ ap bit (conflict-sym c (k + 1) (i + 1)) ∙ sym (t .tells i k m l) ∙ s .apart k l i h
+      t .tells k i l m ∙ ap yesNo (conflict-sym c (k + 1) (i + 1)) ∙ sym (t .tells i k m l) ∙ s .apart k l i h
 
   pub start-passed : (rows : List (List ℕ)) (heights : List ℕ) {at after : List ℕ} → FirstWith (Ready rows heights at) k
       → Changed _+_ (getD table k []) at after → NoneBelow (Ready rows heights after) (getD starts k 0)

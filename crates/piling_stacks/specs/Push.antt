@@ -7,7 +7,7 @@ use lib.ListN.{length, getD}
 use Rattle.theory_words.specs.Trace.{First}
 use Rattle.theory_words.specs.Reduce.{act}
 use Rattle.spec.specs.Conflict.{conflict}
-use Rattle.input_chains.specs.Conflicts.{bit}
+use Rattle.spec.specs.Answers.{yesNo}
 use Rattle.spec.specs.Byte.{commandOf, undone}
 use Rattle.spec.specs.Letters.{alphabet}
 use Rattle.piling_stacks.specs.Piling.{Piled}
@@ -18,7 +18,7 @@ pub record Facing (c : List ℕ) (rows : List (List ℕ)) (heights line : List �
   pub within : k < 24
   pub own : commandOf letter ≡ k + 1
   pub wide : length line ≡ 24
-  pub tells : (j : ℕ) → j < 24 → getD line j 0 ≡ bit (conflict c (k + 1) (j + 1))
+  pub tells : (j : ℕ) → j < 24 → getD line j 0 ≡ yesNo (conflict c (k + 1) (j + 1))
 
 -- the same with room for the letter
 pub record Ready (c : List ℕ) (rows : List (List ℕ)) (heights line : List ℕ) (k letter : ℕ) (z : List ℕ) : Type 0 where
