@@ -181,7 +181,7 @@ static const struct row rows[] = {
     LOOP("slip 3: only the written last letter", K, P(1, 2, U(1), 3), P(2, 3), EXACT, JOINED),
     LOOP("slip 4: cores that differ", K, P(1, 2, 3), P(3, 1, 2), EXACT, JOINED),
     LOOP("slip 4: three rounds", K, P(1, 2, 3, 4), P(4, 3, 2, 1), EXACT, JOINED),
-    LOOP("slip 4: the smallest command as apex", K, P(U(1), 2, U(1), 3), P(U(1), U(1), 2, 3), EXACT, JOINED),
+    LOOP("slip 4: the smallest command as apex", K, P(1, 1, 2, 3), P(1, 2, 3, 1), EXACT, JOINED),
     LOOP("rings that agree at one end only", K, P(2, 1, 2), P(2, 1, 1), EXACT, 0),
     LOOP("slip 5: one ring for several parts", K, P(1, 2, 4), P(2, 1, 4), EXACT, JOINED),
     LOOP("slip 5: parts that are apart", K, P(1, 1, 2, 4), P(1, 2, 4, 4), EXACT, 0),
