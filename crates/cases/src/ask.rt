@@ -1,11 +1,34 @@
 // The library's answers to the calls, as words; the crate cases_report says how.
 
+ghost use Prim.Native.Nat.{_<_};
 use cases_report::checked;
 use cases_report::compared;
 use cases_report::joined;
+use cases_report::read;
 use cases_report::written;
 use cases_solver::Word;
+use cases_solver::at;
 use cases_solver::leads;
+
+// The row of a command; that of command 1 for a number that is none.
+fn row(command: u8) -> usize
+    ensures { λ r. ⌜ r < 24 ⌝ }
+{
+    if command == 0 {
+        return 0;
+    }
+    if 24 < command {
+        return 0;
+    }
+    command as usize - 1
+}
+
+// Whether the first two commands of v conflict, by the table that reading the catalogue fills.
+fn conflict(c: &[u8], v: &[u8]) -> Word {
+    let mut rows = [[0u16; 24]; 24];
+    let answer = busplan::read_catalogue(c, &mut rows);
+    read(answer, rows[row(at(v, 0))][row(at(v, 1))])
+}
 
 // The lead-in must be one.
 fn loops(c: &[u8], v: &[u8], w: &[u8], area: &mut [u8]) -> Word {
@@ -22,6 +45,7 @@ fn lead_in(c: &[u8], v: &[u8], w: &[u8], u: &[u8]) -> Word {
 // The answer to a call by its letter.
 pub fn asked(call: u8, c: &[u8], v: &[u8], w: &[u8], u: &[u8], area: &mut [u8]) -> Word {
     match call {
+        b'r' => conflict(c, v),
         b'n' => written(busplan::normal_form(c, v, area), area),
         b'c' => written(busplan::core(c, v, area), area),
         b'e' => compared(busplan::equal(c, v, w)),

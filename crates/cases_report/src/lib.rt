@@ -10,6 +10,7 @@ pub use library::checked;
 pub use library::compared;
 pub use library::joined;
 pub use library::lead_in;
+pub use library::read;
 pub use library::written;
 pub use printing::answers;
 pub use printing::count;

@@ -5,6 +5,7 @@ use cases_solver::Word;
 use cases_solver::at;
 use cases_solver::blank;
 use cases_solver::with;
+use spec::Catalogue;
 use spec::Equality;
 use spec::LeadIn;
 use spec::Loops;
@@ -26,6 +27,14 @@ fn letters(area: &[u8], number: usize) -> Word {
         i += 1;
     }
     word
+}
+
+// Of the reading of a catalogue, whose table has this number for two commands.
+pub fn read(answer: Catalogue, number: u16) -> Word {
+    match answer {
+        Catalogue::Commands(_) => verdict((number % 256) as u8),
+        Catalogue::Refused(refusal) => refused(refusal),
+    }
 }
 
 // Of a call that writes a normal form or a core to the area.

@@ -51,6 +51,7 @@ fn yes(call: u8) {
     match call {
         b'e' => text(b" equal"),
         b'l' => text(b" joined"),
+        b'r' => text(b" in conflict"),
         _ => text(b" a lead-in"),
     }
 }
@@ -59,6 +60,7 @@ fn no(call: u8) {
     match call {
         b'e' => text(b" not equal"),
         b'l' => text(b" apart"),
+        b'r' => text(b" not in conflict"),
         _ => text(b" no lead-in"),
     }
 }

@@ -1,15 +1,18 @@
 // What the solver answers.
 
 use cases_solver::Word;
+use cases_solver::at;
 use cases_solver::blank;
 use cases_solver::core;
 use cases_solver::joined;
 use cases_solver::leads;
 use cases_solver::normal_form;
 use cases_solver::or;
+use cases_solver::refusal_of_catalogue;
 use cases_solver::refusal_of_form;
 use cases_solver::refusal_of_loops;
 use cases_solver::same;
+use cases_solver::tied;
 use cases_solver::with;
 
 pub fn verdict(number: u8) -> Word {
@@ -19,6 +22,10 @@ pub fn verdict(number: u8) -> Word {
 // The answer to a call by its letter, in an area of so many bytes.
 pub fn solved(call: u8, c: &[u8], v: &[u8], w: &[u8], u: &[u8], room: usize) -> Word {
     match call {
+        b'r' => or(
+            refusal_of_catalogue(c),
+            verdict(tied(c, at(v, 0), at(v, 1)) as u8),
+        ),
         b'n' => or(refusal_of_form(c, v, room), normal_form(c, v)),
         b'c' => or(refusal_of_form(c, v, room), core(c, v)),
         b'e' => verdict(same(normal_form(c, v), normal_form(c, w)) as u8),

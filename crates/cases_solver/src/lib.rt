@@ -7,12 +7,14 @@ mod form;
 mod refusals;
 mod word;
 
+pub use catalogue::tied;
 pub use conjugacy::core;
 pub use conjugacy::joined;
 pub use conjugacy::leads;
 pub use form::normal_form;
 pub use refusals::or;
 pub use refusals::refusal;
+pub use refusals::refusal_of_catalogue;
 pub use refusals::refusal_of_form;
 pub use refusals::refusal_of_loops;
 pub use word::Word;

@@ -105,9 +105,14 @@ fn small_area(room: usize, commands: usize, bytes: usize) -> Word {
     }
 }
 
+// Of a catalogue.
+pub fn refusal_of_catalogue(c: &[u8]) -> Word {
+    refused(c, b"", 1, 7, 0)
+}
+
 // Of a normal form or a core.
 pub fn refusal_of_form(c: &[u8], plan: &[u8], room: usize) -> Word {
-    let first = or(refused(c, plan, 1, 7, 0), refused(c, plan, 7, 9, 1));
+    let first = or(refusal_of_catalogue(c), refused(c, plan, 7, 9, 1));
     or(first, small_area(room, 1, plan.len()))
 }
 
