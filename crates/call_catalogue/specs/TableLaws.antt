@@ -11,17 +11,13 @@ use Rattle.spec.specs.Answers.{yesNo}
 use Rattle.spec.specs.Catalogue.{commands, catalogueLines}
 use Rattle.spec.specs.Conflict.{conflict}
 use Rattle.spec.specs.Calls.{catalogueAnswer, catalogueTable, numbers, conflictRows}
+use Rattle.spec_laws.specs.ConflictLaws.{count}
 use Rattle.spec_laws.specs.SearchLaws.{passed-line, refused-line}
 use Rattle.input_catalogue.specs.Checked.{toldChecked}
 use Rattle.input_catalogue.specs.declared.Checked.{Checked}
 use Rattle.input_catalogue.specs.declared.Checked.the-variants.{Passed, Refused}
 use Rattle.input_chains.specs.Conflicts.{Conflicts}
 use Rattle.input_conflicts.specs.Reading.{Reading}
-
--- so many numbers, from a on
-unfoldable count : ℕ → ℕ → List ℕ
-count a zero = []
-count a (suc n) = a ∷ count (suc a) n
 
 -- a list that is known place by place
 counted : {A : Type 0} (d : A) (f : ℕ → A) (l : List A) (a n : ℕ) → length l ≡ n

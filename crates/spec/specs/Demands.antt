@@ -2,24 +2,25 @@
 -- bytes, answers what its definition says (Calls, Loops) and leaves its areas as its definition says; here stands what
 -- that is worth, over steps (Step), their order (Order), pairs (Core) and lead-ins (Join) alone. The crate spec_laws
 -- proves each demand as one value (DemandsMet), the crate loops_framing that of the program's input.
-use Prim.Native.Nat.{ℕ}
+use Prim.Native.Nat.{ℕ, _+_, _≤_, _<_}
 use mathlib.Core.Path.{_≡_}
 use mathlib.Core.Bool.{Bool, true}
-use mathlib.Core.List.{List, _++_}
+use mathlib.Core.List.{List, [], _++_}
 use mathlib.Core.Option.{Option, none, some}
 use mathlib.Core.Logic.{_↔_, _⊎_}
-use lib.ListN.{length, take, drop}
+use lib.ListN.{length, take, drop, getD}
 use Rattle.spec.specs.Table.{Line, line, Answer, refused, given, firstLine, orElse, orKept, NoneHolds, FirstHolds}
 use Rattle.spec.specs.Catalogue.{commands, countLine}
+use Rattle.spec.specs.Conflict.{conflict, Conflicting}
 use Rattle.spec.specs.Plan.{isCommand}
 use Rattle.spec.specs.Byte.{undone, undoOf}
 use Rattle.spec.specs.Step.{Equal}
 use Rattle.spec.specs.Order.{Earlier}
 use Rattle.spec.specs.Join.{Joins}
 use Rattle.spec.specs.Core.{Swaps, Least, CyclicallyReduced, TakenOff}
-use Rattle.spec.specs.Answers.{CheckedLeadIn}
+use Rattle.spec.specs.Answers.{yesNo, CheckedLeadIn}
 use Rattle.spec.specs.Calls.{normalFormAnswer, normalFormArea, coreForm, coreAnswer, coreArea}
-use Rattle.spec.specs.Calls.{equalAnswer}
+use Rattle.spec.specs.Calls.{catalogueAnswer, catalogueTable, equalAnswer}
 use Rattle.spec.specs.Loops.{loopsLines, Looped, LeadIn, checkAnswer}
 use Rattle.spec.specs.Framing.{Framed, wellFramed, catalogueOf, plan1Of, plan2Of}
 use Rattle.spec.specs.Listing.{Printed}
@@ -34,6 +35,14 @@ pub record Demand1 : Type 1 where
       → (orElse (firstLine ls) a ≡ given a) ↔ NoneHolds ls
   pub untouched : {A : Type 0} (ls : List (Option Line)) (new old : A) {l : Line} → FirstHolds l ls
       → orKept (firstLine ls) new old ≡ old
+
+-- Reading a catalogue. The answer to one that is not refused is N, at most 24, and in the lent table number j of row i
+-- is 1 if commands i + 1 and j + 1 conflict and else 0. The test of two commands is exact.
+pub record CatalogueDemand : Type 0 where
+  pub number : (c : List ℕ) (n : ℕ) → catalogueAnswer c ≡ given n → (n ≡ commands c) × (n ≤ 24)
+  pub table : (c : List ℕ) (t : List (List ℕ)) (n : ℕ) → catalogueAnswer c ≡ given n → (i j : ℕ) → i < 24 → j < 24
+      → getD (getD (catalogueTable c t) i []) j 0 ≡ yesNo (conflict c (i + 1) (j + 1))
+  pub conflicts : (c : List ℕ) (a b : ℕ) → (conflict c a b ≡ true) ↔ Conflicting c a b
 
 -- z has the effect of v, is no longer than any plan that has it, and is the first of those of its length
 pub record Shortest (c v z : List ℕ) : Type 0 where

@@ -27,7 +27,8 @@ use Rattle.spec.specs.Plan.{isCommand, Passing}
 use Rattle.spec.specs.Byte.{undone, undoOf}
 use Rattle.spec.specs.Letters.{letters, alphabet, normalForm}
 use Rattle.spec_laws.specs.CommandLaws.{isCommand-undone}
-use Rattle.spec_laws.specs.LettersLaws.{Commands, letters-commands, commands-passing, letters-same, letters-length}
+use Rattle.spec_laws.specs.LettersLaws.{Commands, letters-commands, commands-passing}
+use Rattle.spec_laws.specs.LettersLaws.{letters-same, letters-length}
 use Rattle.spec.specs.Step.{Equal}
 use Rattle.spec_laws.specs.StepLaws.{equal-exact, equal-words, equal-left, equal-sym, words-equal}
 use Rattle.spec_laws.specs.NormalFormLaws.{normal-shortest}

@@ -1,12 +1,12 @@
 -- For the reader, and cited by no other file: the demands are met, each is a value of its statement in the crate spec.
-use Prim.Native.Nat.{ℕ, _≤_}
+use Prim.Native.Nat.{ℕ, _+_, _≤_, _<_}
 use mathlib.Core.Path.{_≡_, refl, sym, _∙_, ap}
 use mathlib.Core.Bool.{Bool, true}
 use mathlib.Core.List.{List, [], _∷_, _++_}
 use mathlib.Core.Option.{Option, none, some}
 use mathlib.Core.Logic.{_↔_}
 use native.Mathlib.Omega.{arith}
-use lib.ListN.{length, take, drop}
+use lib.ListN.{length, take, drop, getD}
 use lib.Dec.{ltb}
 use lib.Seq.{take-at, take-append-seam, drop-append-seam}
 use Rattle.theory_words.specs.Alike.{alike?}
@@ -14,6 +14,8 @@ use Rattle.theory_words.specs.AlikeLaws.{alike-exact}
 use Rattle.spec.specs.Table.{Line, line, Answer, refused, given, firstLine, orElse, orKept, NoneHolds, FirstHolds}
 use Rattle.spec_laws.specs.TableLaws.{none-holds, first-holds, none-left, none-right}
 use Rattle.spec.specs.Catalogue.{commands, catalogueLines}
+use Rattle.spec.specs.Conflict.{conflict}
+use Rattle.spec_laws.specs.ConflictLaws.{conflict-exact, rows-tell}
 use Rattle.spec.specs.Plan.{planLines, Passing}
 use Rattle.spec_laws.specs.PlanLaws.{lines-pass, passing-append}
 use Rattle.spec.specs.Letters.{normalForm}
@@ -24,10 +26,10 @@ use Rattle.spec_laws.specs.CoreFormLaws.{core-of}
 use Rattle.spec_laws.specs.SearchLaws.{given-not}
 use Rattle.spec.specs.Step.{Equal}
 use Rattle.spec.specs.Demands.{Demand1, Demand2, Demand3, Shortest, Exact, CoreOf}
-use Rattle.spec.specs.Demands.{CoreDemand, ProgramDemand, PlansDemand}
+use Rattle.spec.specs.Demands.{CatalogueDemand, CoreDemand, ProgramDemand, PlansDemand}
 use Rattle.spec.specs.Calls.{planLimit, areaLine, areaAfter, normalFormLines, normalFormAnswer, normalFormArea}
-use Rattle.spec.specs.Calls.{coreForm, coreAnswer, coreArea, equalLines, equalAnswer}
-use Rattle.spec.specs.Answers.{CheckedLeadIn}
+use Rattle.spec.specs.Calls.{catalogueAnswer, catalogueTable, coreForm, coreAnswer, coreArea, equalLines, equalAnswer}
+use Rattle.spec.specs.Answers.{yesNo, CheckedLeadIn}
 use Rattle.spec.specs.Loops.{leadInRoom, loopsLines, Looped, refuses, apart, joined, LeadIn, checkLines, checkAnswer}
 use Rattle.spec_laws.specs.UnsettledLaws.{never-ten, holds-not-ten}
 use Rattle.spec.specs.Program.{programLines}
@@ -58,6 +60,22 @@ refused-untouched ls new old {l} f = rw (first-holds ls l .1 f)
 
 pub demand-1 : Demand1
 demand-1 = record { refused-exactly = refused-exactly; given-exactly = given-exactly; untouched = refused-untouched }
+
+-- Reading a catalogue
+
+catalogue-number : (c : List ℕ) (n : ℕ) → catalogueAnswer c ≡ given n → (n ≡ commands c) × (n ≤ 24)
+catalogue-number c n e =
+    let (none-refuses, same) = answer-given (firstLine (catalogueLines c)) (commands c) n e in
+    (sym same, omega (arith, same, few-commands c none-refuses))
+
+catalogue-table : (c : List ℕ) (t : List (List ℕ)) (n : ℕ) → catalogueAnswer c ≡ given n → (i j : ℕ) → i < 24 → j < 24
+    → getD (getD (catalogueTable c t) i []) j 0 ≡ yesNo (conflict c (i + 1) (j + 1))
+catalogue-table c t n e i j h l =
+    rw (answer-given (firstLine (catalogueLines c)) (commands c) n e .0) (rows-tell c i j h l)
+
+pub demand-catalogue : CatalogueDemand
+demand-catalogue =
+    record { number = catalogue-number; table = catalogue-table; conflicts = conflict-exact }
 
 -- Demand 2
 

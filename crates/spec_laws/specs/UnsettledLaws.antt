@@ -18,9 +18,9 @@ use Rattle.theory_conjugacy.specs.PartLaws.{part-bounded}
 use Rattle.theory_conjugacy.specs.RoundLaws.{part-quiet}
 use Rattle.spec.specs.Table.{Line, line, holds, firstOf, lineAt, firstLine, FirstHolds, now, later}
 use Rattle.spec_laws.specs.TableLaws.{first-early, first-late, first-holds, none-left}
-use Rattle.spec.specs.Catalogue.{commands, records, headPlace, commandPlace, nextPlace, head, command, next, ends, chain}
-use Rattle.spec.specs.Catalogue.{stands, orIf, sizeLine, countLine, headLine, nextLine, recordLine, endlessLine, ownLine}
-use Rattle.spec.specs.Catalogue.{catalogueLines}
+use Rattle.spec.specs.Catalogue.{commands, records, headPlace, commandPlace, nextPlace, head, command, next, ends}
+use Rattle.spec.specs.Catalogue.{chain, stands, orIf, sizeLine, countLine, headLine, nextLine, recordLine}
+use Rattle.spec.specs.Catalogue.{endlessLine, ownLine, catalogueLines}
 use Rattle.spec.specs.Plan.{isCommand, Passing, firstBad, planLines}
 use Rattle.spec.specs.Byte.{commandOf}
 use Rattle.spec.specs.Letters.{letters, alphabet}
@@ -147,7 +147,8 @@ never-ten c v w ls p i h f = go (firstLine early) refl
         let (hv, hw) = two-pass c v w ls e in
         let k : firstLine (catalogueLines c) ≡ none =
         none-left (catalogueLines c) (planLines 1 planLimit n v)
-        (none-left (catalogueLines c ++ planLines 1 planLimit n v) (planLines 2 planLimit n w) (none-left plans ls e)) in
+        (none-left (catalogueLines c ++ planLines 1 planLimit n v) (planLines 2 planLimit n w)
+        (none-left plans ls e)) in
         rw (never-unsettled 1 c v (few-commands c k) hv, never-unsettled 2 c w (few-commands c k) hw)
 
     go : (o : Option Line) → firstLine early ≡ o → ⊥

@@ -40,7 +40,8 @@ verdict-given s o e =
     let v = plan1Of s in
     let w = plan2Of s in
     let d = joined-step (joined? (alphabet c) (letters v) (letters w)) (length (coreForm c v)) in
-    let (n, q) = answer-given (firstLine (programLines c v w)) d o (framed-given (wellFramed s) (loopsVerdict c v w) e) in
+    let f = framed-given (wellFramed s) (loopsVerdict c v w) e in
+    let (n, q) = answer-given (firstLine (programLines c v w)) d o f in
     record { passing = two-pass c v w (unsettledLine 1 c v ∷ unsettledLine 2 c w ∷ []) n; decided = q }
 
 step-true : (t : Bool) (n l : ℕ) → joined-step t n ≡ some l → (t ≡ true) × (l ≡ n)
