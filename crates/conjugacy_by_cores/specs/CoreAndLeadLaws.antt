@@ -13,12 +13,12 @@ use Rattle.theory_words.specs.TraceLaws.{~-sym, ~-length}
 use Rattle.theory_words.specs.Group as Group
 use Rattle.theory_words.specs.Group.{conj, then, back}
 use Rattle.theory_words.specs.GroupLaws.{~→≈, ≈-of-≡, ≈-conj-by}
-use Rattle.theory_words.specs.ReduceLaws.{reduce-fixed, reduce-length}
+use Rattle.theory_words.specs.ReduceLaws.{reduce-length}
 use Rattle.theory_words.specs.Normal.{nf}
-use Rattle.theory_words.specs.NormalLaws.{nf-~, nf-≈, nf-fixed, nf-reduced, nf-ordered, nf-length}
+use Rattle.theory_words.specs.NormalLaws.{nf-≈, nf-fixed, nf-reduced, nf-ordered, nf-length}
 use Rattle.theory_conjugacy.specs.TurnLaws.{turns-length}
 use Rattle.theory_conjugacy.specs.Core.{core}
-use Rattle.theory_conjugacy.specs.CoreLaws.{core-reduced, core-conj, core-length, core-all}
+use Rattle.theory_conjugacy.specs.CoreLaws.{core-conj, core-length, core-all}
 use Rattle.theory_conjugacy.specs.ConjugateLaws.{conjugate-cores}
 use Rattle.theory_conjugacy.specs.Decision.{cores-joined?, joined?}
 use Rattle.theory_conjugacy.specs.DecisionLaws.{lead-in-bound, none-occur, conjugate-joined}
@@ -30,7 +30,7 @@ use Rattle.spec_laws.specs.LettersLaws.{Commands, commands-range, commands-pass
 use Rattle.spec_laws.specs.LettersLaws.{letters-commands, letters-length, letters-same}
 use Rattle.spec_laws.specs.NormalFormLaws.{normal-letters, normal-passing}
 use Rattle.spec_laws.specs.JoinLaws.{joins-words}
-use Rattle.spec.specs.Calls.{coreForm}
+use Rattle.spec_laws.specs.CoreFormLaws.{form-~}
 use Rattle.spec.specs.Loops.{LeadIn, leadInRoom}
 use Rattle.conjugacy_of_cores.specs.Pair.{Conjugator}
 use Rattle.conjugacy_by_cores.specs.CoreAndLead.{CoreAndLead}
@@ -46,16 +46,9 @@ module _ (c : List ℕ) where
   abbrev _≈_ : List ℕ → List ℕ → Type 0
   _≈_ = Group._≈_ (alphabet c)
 
-  pub form-~ : (v : List ℕ) → coreForm c v ~ core (alphabet c) (letters v)
-  unfolding coreForm
-  form-~ v =
-      let z = core (alphabet c) (letters v) in
-      subst (λ (x : List ℕ). nf (alphabet c) z ~ x)
-      (reduce-fixed (alphabet c) z (core-reduced (alphabet c) (letters v))) (nf-~ (alphabet c) z)
-
   module _ {v x g : List ℕ} (k : CoreAndLead c v x g) where
     pub core-~ : x ~ core (alphabet c) (letters v)
-    core-~ = subst (λ (z : List ℕ). z ~ core (alphabet c) (letters v)) (sym (k .form)) (form-~ v)
+    core-~ = subst (λ (z : List ℕ). z ~ core (alphabet c) (letters v)) (sym (k .form)) (form-~ c v)
 
     pub off-conj : conj (alphabet c) g (letters v) ≈ x
     off-conj =

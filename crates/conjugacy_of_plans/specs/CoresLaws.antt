@@ -10,7 +10,7 @@ use Rattle.array_row.specs.AreaLaws.{starts-take}
 use Rattle.spec.specs.Letters.{letters, alphabet}
 use Rattle.piling_form.specs.Coring.{CoreOf}
 use Rattle.conjugacy_by_cores.specs.CoreAndLead.{CoreAndLead}
-use Rattle.conjugacy_by_cores.specs.CoreAndLeadLaws.{form-~}
+use Rattle.spec_laws.specs.CoreFormLaws.{form-~}
 
 module _ {c v core lead core′ lead′ : List ℕ} {n m : ℕ} (k : CoreOf c v core lead core′ lead′ n m) where
   pub core-and-lead : CoreAndLead c v (take n core′) (take m lead′)

@@ -59,7 +59,7 @@ pub record Demand2 : Type 0 where
 
 -- z is the core of v: v is equal to some g, z, undo of g; z is cyclically reduced, and a normal form; it is left when
 -- pairs are taken off some shortest plan of v's effect, and what is left of any of them, in any way, has its effect
-pub record CoreOf (c v z : List ℕ) : Type 0 where
+pub record IsCore (c v z : List ℕ) : Type 0 where
   pub product : (g : List ℕ) × Equal c v (g ++ (z ++ undoOf g))
   pub reduced : CyclicallyReduced c z
   pub normal : Shortest c z z
@@ -69,7 +69,7 @@ pub record CoreOf (c v z : List ℕ) : Type 0 where
 -- The core call. Of a plan that is not refused, the first L bytes of the area are its core.
 pub record CoreDemand : Type 0 where
   pub core : (c v area : List ℕ) (l : ℕ) → coreAnswer c v area ≡ given l
-      → (length (take l (coreArea c v area)) ≡ l) × CoreOf c v (take l (coreArea c v area))
+      → (length (take l (coreArea c v area)) ≡ l) × IsCore c v (take l (coreArea c v area))
 
 -- an answer o to two loops is exact: a length says that some plan u of any length joins them, nothing that none does
 pub record Exact (c v w : List ℕ) (o : Option ℕ) : Type 0 where

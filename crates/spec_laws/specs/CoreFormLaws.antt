@@ -37,7 +37,7 @@ use Rattle.spec_laws.specs.JoinLaws.{joins-words, joins-passing}
 use Rattle.spec.specs.Core.{none, Least, Pair, CyclicallyReduced, TakenOff, whole, pair}
 use Rattle.spec_laws.specs.SwapLaws.{words-swaps, swaps-words, least-letters, least-commands, least-reduced}
 use Rattle.spec.specs.Calls.{coreForm}
-use Rattle.spec.specs.Demands.{Shortest, CoreOf}
+use Rattle.spec.specs.Demands.{Shortest, IsCore}
 
 module _ (c : List ℕ) where
   infix 20 _~_ _≈_
@@ -83,6 +83,13 @@ module _ (c : List ℕ) where
 
   -- The core of a plan
 
+  -- its form is the core of its word, up to swaps
+  pub form-~ : (v : List ℕ) → coreForm c v ~ core (alphabet c) (letters v)
+  unfolding coreForm
+  form-~ v =
+      let z = core (alphabet c) (letters v) in
+      rw (reduce-fixed (alphabet c) z (core-reduced (alphabet c) (letters v))) at (nf-~ (alphabet c) z)
+
   module _ (v : List ℕ) (h : Passing n v) where
     abbrev inside : List ℕ
     inside = core (alphabet c) (letters v)
@@ -93,12 +100,9 @@ module _ (c : List ℕ) where
     inside-commands : Commands n before × Commands n inside
     inside-commands = core-all (alphabet c) (λ b. isCommand n b ≡ true) (letters v) (letters-commands n v h)
 
-    form-~ : coreForm c v ~ inside
-    unfolding coreForm
-    form-~ = rw (reduce-fixed (alphabet c) inside (core-reduced (alphabet c) (letters v))) at (nf-~ (alphabet c) inside)
-
     pub core-commands : Commands n (coreForm c v)
-    core-commands = all-along (alphabet c) (λ b. isCommand n b ≡ true) (~-sym (alphabet c) form-~) (inside-commands .1)
+    core-commands =
+        all-along (alphabet c) (λ b. isCommand n b ≡ true) (~-sym (alphabet c) (form-~ v)) (inside-commands .1)
 
     core-normal : normalForm c (coreForm c v) ≡ coreForm c v
     unfolding normalForm coreForm
@@ -127,7 +131,7 @@ module _ (c : List ℕ) where
     product-≈ =
         then (core-product (alphabet c) (letters v))
         (≈-before (alphabet c) before
-        (≈-after (alphabet c) (~→≈ (alphabet c) (~-sym (alphabet c) form-~)) (undoOf before)))
+        (≈-after (alphabet c) (~→≈ (alphabet c) (~-sym (alphabet c) (form-~ v))) (undoOf before)))
 
     core-parts : Equal c v product
     core-parts =
@@ -141,7 +145,7 @@ module _ (c : List ℕ) where
           length-append before (coreForm c v ++ undoOf before),
           length-append (coreForm c v) (undoOf before),
           undo-length undone before [],
-          ~-length (alphabet c) form-~,
+          ~-length (alphabet c) (form-~ v),
           core-length (alphabet c) (letters v),
         )
 
@@ -160,11 +164,11 @@ module _ (c : List ℕ) where
         reduced-~ g x (reduce g (letters v)) (least-reduced c x k l) (reduce-reduced g (letters v))
         (then f (back (reduce-≈ g (letters v)))) in
         let (w, m) = taken-cores (least-commands c x k l) t in
-        let i : y ~ coreForm c v = next (cores-core g (letters v) d m .0) (~-sym g form-~) in
+        let i : y ~ coreForm c v = next (cores-core g (letters v) d m .0) (~-sym g (form-~ v)) in
         let j : Commands n y = all-along g (λ b. isCommand n b ≡ true) (~-sym g i) core-commands in
         words-equal c j core-commands (~→≈ g i)
 
-    pub core-of : n ≤ 127 → CoreOf c v (coreForm c v)
+    pub core-of : n ≤ 127 → IsCore c v (coreForm c v)
     core-of m =
         record {
           product = (before, core-parts);
@@ -179,7 +183,7 @@ module _ (c : List ℕ) where
             record {
               least = core-shortest m .least;
               no-pair = pairs-tight (coreForm c v)
-                  (tight-along (alphabet c) (~-sym (alphabet c) form-~) (core-tight (alphabet c) (letters v)));
+                  (tight-along (alphabet c) (~-sym (alphabet c) (form-~ v)) (core-tight (alphabet c) (letters v)));
             }
 
   -- joined plans have cores of one length
@@ -189,4 +193,4 @@ module _ (c : List ℕ) where
       let g = alphabet c in
       let e = joins-words c v w u h k (joins-passing c v w u j) .0 j in
       let t = turns-length g (conjugate-cores g (letters u) (letters v) (letters w) e) in
-      omega (arith, t, ~-length g (form-~ v h), ~-length g (form-~ w k))
+      omega (arith, t, ~-length g (form-~ v), ~-length g (form-~ w))

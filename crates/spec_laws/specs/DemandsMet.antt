@@ -25,7 +25,7 @@ use Rattle.spec_laws.specs.SwapLaws.{swaps-alone}
 use Rattle.spec_laws.specs.CoreFormLaws.{core-of}
 use Rattle.spec_laws.specs.SearchLaws.{given-not}
 use Rattle.spec.specs.Step.{Equal}
-use Rattle.spec.specs.Demands.{Demand1, Demand2, Demand3, Shortest, Exact, CoreOf}
+use Rattle.spec.specs.Demands.{Demand1, Demand2, Demand3, Shortest, Exact, IsCore}
 use Rattle.spec.specs.Demands.{CatalogueDemand, CoreDemand, ProgramDemand, PlansDemand}
 use Rattle.spec.specs.Calls.{planLimit, areaLine, areaAfter, normalFormLines, normalFormAnswer, normalFormArea}
 use Rattle.spec.specs.Calls.{catalogueAnswer, catalogueTable, coreForm, coreAnswer, coreArea, equalLines, equalAnswer}
@@ -135,9 +135,9 @@ demand-2 = record { equal = equal-demand; normal-form = normal-form-demand }
 -- The core call
 
 core-demand : (c v area : List ℕ) (l : ℕ) → coreAnswer c v area ≡ given l
-    → (length (take l (coreArea c v area)) ≡ l) × CoreOf c v (take l (coreArea c v area))
+    → (length (take l (coreArea c v area)) ≡ l) × IsCore c v (take l (coreArea c v area))
 core-demand c v area l e =
-    written-first (normalFormLines c v area) (coreForm c v) area l (CoreOf c v) e
+    written-first (normalFormLines c v area) (coreForm c v) area l (IsCore c v) e
     (λ n. let (few, passing) = form-given c v area n in core-of c v passing few)
 
 pub demand-core : CoreDemand
