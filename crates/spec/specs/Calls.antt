@@ -40,7 +40,8 @@ catalogueAnswer c = orElse (firstLine (catalogueLines c)) (commands c)
 -- the numbers that a command can have
 unfoldable pub numbers : List ℕ
 numbers =
-    1 ∷ 2 ∷ 3 ∷ 4 ∷ 5 ∷ 6 ∷ 7 ∷ 8 ∷ 9 ∷ 10 ∷ 11 ∷ 12 ∷ 13 ∷ 14 ∷ 15 ∷ 16 ∷ 17 ∷ 18 ∷ 19 ∷ 20 ∷ 21 ∷ 22 ∷ 23 ∷ 24 ∷ []
+    1 ∷ 2 ∷ 3 ∷ 4 ∷ 5 ∷ 6 ∷ 7 ∷ 8 ∷ 9 ∷ 10 ∷ 11 ∷ 12
+    ∷ 13 ∷ 14 ∷ 15 ∷ 16 ∷ 17 ∷ 18 ∷ 19 ∷ 20 ∷ 21 ∷ 22 ∷ 23 ∷ 24 ∷ []
 
 -- 24 rows of 24 numbers: number b of row a is 1 if a and b conflict, else 0; above N a number conflicts with itself
 unfoldable pub conflictRows : List ℕ → List (List ℕ)

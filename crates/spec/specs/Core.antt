@@ -2,23 +2,18 @@
 -- last are taken off together, until no such pair is left.
 use Prim.Native.Nat.{ℕ, _≤_}
 use mathlib.Core.Path.{_≡_}
-use mathlib.Core.Bool.{true, false}
+use mathlib.Core.Bool.{false}
 use mathlib.Core.List.{List, [], _∷_, _++_}
 use lib.ListN.{length}
-use Rattle.spec.specs.Catalogue.{commands}
 use Rattle.spec.specs.Conflict.{conflict}
-use Rattle.spec.specs.Plan.{isCommand}
 use Rattle.spec.specs.Byte.{commandOf, undone}
-use Rattle.spec.specs.Step.{Equal}
+use Rattle.spec.specs.Step.{Command, Equal}
 
 module _ (c : List ℕ) where
-  abbrev Command : ℕ → Type 0
-  Command b = isCommand (commands c) b ≡ true
-
   -- v and w differ by swaps alone
   pub data Swaps : List ℕ → List ℕ → Type 0 where
     none : {v : List ℕ} → Swaps v v
-    front : {a b : ℕ} {y : List ℕ} → Command a → Command b → conflict c (commandOf a) (commandOf b) ≡ false
+    front : {a b : ℕ} {y : List ℕ} → Command c a → Command c b → conflict c (commandOf a) (commandOf b) ≡ false
         → Swaps (a ∷ b ∷ y) (b ∷ a ∷ y)
     behind : {b : ℕ} {v w : List ℕ} → Swaps v w → Swaps (b ∷ v) (b ∷ w)
     also : {v x w : List ℕ} → Swaps v x → Swaps x w → Swaps v w

@@ -12,9 +12,8 @@ use lib.ListN.{length, take, drop, getD}
 use Rattle.spec.specs.Table.{Line, line, Answer, refused, given, firstLine, orElse, orKept, NoneHolds, FirstHolds}
 use Rattle.spec.specs.Catalogue.{commands, countLine}
 use Rattle.spec.specs.Conflict.{conflict, Conflicting}
-use Rattle.spec.specs.Plan.{isCommand}
 use Rattle.spec.specs.Byte.{undone, undoOf}
-use Rattle.spec.specs.Step.{Equal}
+use Rattle.spec.specs.Step.{Command, Equal}
 use Rattle.spec.specs.Order.{Earlier}
 use Rattle.spec.specs.Join.{Joins}
 use Rattle.spec.specs.Core.{Swaps, Least, CyclicallyReduced, TakenOff}
@@ -111,5 +110,5 @@ pub record ProgramDemand : Type 0 where
 -- What document 01 says of all plans: with at most 24 commands each differs from its undo, and all shortest plans of
 -- one effect differ by swaps alone.
 pub record PlansDemand : Type 0 where
-  pub undo-differs : (c : List ℕ) (b : ℕ) → countLine c ≡ none → isCommand (commands c) b ≡ true → ¬ (undone b ≡ b)
+  pub undo-differs : (c : List ℕ) (b : ℕ) → countLine c ≡ none → Command c b → ¬ (undone b ≡ b)
   pub swaps-alone : (c x y : List ℕ) → Equal c x y → Least c x → Least c y → Swaps c x y

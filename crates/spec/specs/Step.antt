@@ -11,7 +11,8 @@ use Rattle.spec.specs.Plan.{isCommand, Passing}
 use Rattle.spec.specs.Byte.{commandOf, undone}
 
 module _ (c : List ℕ) where
-  abbrev Command : ℕ → Type 0
+  -- a byte that does or undoes a command of the catalogue
+  abbrev pub Command : ℕ → Type 0
   Command b = isCommand (commands c) b ≡ true
 
   -- a step at the front of a plan, or further on
