@@ -6,7 +6,8 @@ use Rattle.piling_equal.proofs.pile_shorter.Tie as tie
 
 pile-requires : tie.Need-pile-requires
 pile-requires c κs =
-    let p = c .before .before .before .before .before .pre in
+    let t = c .before .before in
+    let p = t .before .before .before .pre in
     (p .0, passed-given (p .2) (p .3) (p .4))
 
 returns : tie.Need-returns
@@ -18,7 +19,8 @@ returns c = λ k p q.
 
 pile-requires-2 : tie.Need-pile-requires-2
 pile-requires-2 c κs =
-    let p = c .before .before .before .before .before .pre in
+    let t = c .before .before in
+    let p = t .before .before .before .pre in
     (p .0, passed-given (p .1) (p .3) (p .4))
 
 returns-2 : tie.Need-returns-2
