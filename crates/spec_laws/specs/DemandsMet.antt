@@ -12,7 +12,8 @@ use lib.Seq.{take-at, take-append-seam, drop-append-seam}
 use Rattle.theory_words.specs.Alike.{alike?}
 use Rattle.theory_words.specs.AlikeLaws.{alike-exact}
 use Rattle.spec.specs.Table.{Line, line, Answer, refused, given, firstLine, orElse, orKept, NoneHolds, FirstHolds}
-use Rattle.spec_laws.specs.TableLaws.{none-holds, first-holds, none-left, none-right}
+use Rattle.spec_laws.specs.TableLaws.{none-holds, first-holds, none-left, none-right, none-some}
+use Rattle.spec_laws.specs.LineLaws.{holds-up-to}
 use Rattle.spec.specs.Catalogue.{commands, catalogueLines}
 use Rattle.spec.specs.Conflict.{conflict}
 use Rattle.spec_laws.specs.ConflictLaws.{conflict-exact, rows-tell}
@@ -31,10 +32,10 @@ use Rattle.spec.specs.Calls.{planLimit, areaLine, areaAfter, normalFormLines, n
 use Rattle.spec.specs.Calls.{catalogueAnswer, catalogueTable, coreForm, coreAnswer, coreArea, equalLines, equalAnswer}
 use Rattle.spec.specs.Answers.{yesNo, CheckedLeadIn}
 use Rattle.spec.specs.Loops.{leadInRoom, loopsLines, Looped, refuses, apart, joined, LeadIn, checkLines, checkAnswer}
-use Rattle.spec_laws.specs.UnsettledLaws.{never-ten, holds-not-ten}
+use Rattle.spec_laws.specs.UnsettledLaws.{never-ten}
 use Rattle.spec.specs.Program.{programLines}
 use Rattle.spec_laws.specs.VerdictLaws.{verdict-printed, verdict-cores}
-use Rattle.spec_laws.specs.LoopLaws.{loops-pass, none-joins, none-some, check-pass}
+use Rattle.spec_laws.specs.LoopLaws.{loops-pass, none-joins, check-pass}
 use Rattle.spec.specs.Join.{Joins}
 use Rattle.spec_laws.specs.JoinLaws.{joins-check}
 use Rattle.spec_laws.specs.CallLaws.{answer-refused, answer-given, counted-few, few-commands}
@@ -166,7 +167,7 @@ refusal-untouched (refuses e) = refl
 loops-settled : (c v w area : List ℕ) (p i : ℕ) → ¬ FirstHolds (line 10 p i) (loopsLines c v w area)
 loops-settled c v w area p i =
     never-ten c v w (areaLine 0 (leadInRoom c v w) area ∷ []) p i
-    (holds-not-ten 9 0 0 (λ e. omega arith) (ltb (length area) (leadInRoom c v w)), tt)
+    (holds-up-to 9 (line 9 0 0) (omega arith, omega arith, omega arith) (ltb (length area) (leadInRoom c v w)), tt)
 
 apart-untouched : {c v w area after : List ℕ} → Looped c v w area (given none) after → after ≡ area
 apart-untouched (apart e d) = refl

@@ -1,6 +1,7 @@
 -- Laws of the definitions of the crate spec; the demands, each proved as a value of its statement (DemandsMet), the
 -- starred cases (CasesHold), and small catalogues with the line that refuses each (CatalogueCases).
 pub mod TableLaws
+pub mod LineLaws
 pub mod SearchLaws
 pub mod CatalogueLaws
 pub mod CatalogueCases

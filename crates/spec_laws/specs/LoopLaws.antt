@@ -22,9 +22,6 @@ use Rattle.spec_laws.specs.StepLaws.{kept}
 use Rattle.spec.specs.Calls.{planLimit, areaLine}
 use Rattle.spec.specs.Loops.{leadInRoom, unsettledLine, loopsLines, leadInLimit, checkLines}
 
-pub none-some : {A : Type 0} {a : A} → none ≡ some a → ⊥
-none-some e = let z : _≡_ {A = ℕ} 0 1 = cc in omega arith
-
 -- two plans that no line refuses
 pub two-pass : (c v w : List ℕ) (ls : List (Option Line))
     → firstLine (catalogueLines c ++ planLines 1 planLimit (commands c) v ++ planLines 2 planLimit (commands c) w ++ ls)
