@@ -3,6 +3,7 @@
 ghost use Prim.Native.Nat.{_<_};
 use cases_report::checked;
 use cases_report::compared;
+use cases_report::found;
 use cases_report::joined;
 use cases_report::read;
 use cases_report::written;
@@ -50,6 +51,7 @@ pub fn asked(call: u8, c: &[u8], v: &[u8], w: &[u8], u: &[u8], area: &mut [u8]) 
         b'c' => written(busplan::core(c, v, area), area),
         b'e' => compared(busplan::equal(c, v, w)),
         b'l' => loops(c, v, w, area),
+        b'f' => found(busplan::fault(c, v, w, u)),
         _ => lead_in(c, v, w, u),
     }
 }

@@ -1,4 +1,4 @@
-// The bench cases of document 01, its edges and the slips seen on the bench, read as a table from standard input, then
+// The manual's cases, its edges and its slips (docs/MANUAL.md, "Cases"), read as a table from standard input, then
 // every small plan under K, put to the library and to a solver written independently of it. A line a case: what the
 // library says, then what the solver says. The crate cases_table says what a line of the table looks like.
 

@@ -7,6 +7,7 @@ use cases_solver::blank;
 use cases_solver::with;
 use spec::Catalogue;
 use spec::Equality;
+use spec::Fault;
 use spec::LeadIn;
 use spec::Loops;
 use spec::Refusal;
@@ -78,5 +79,13 @@ pub fn checked(answer: LeadIn) -> Word {
         LeadIn::Yes(_) => verdict(1),
         LeadIn::No(_) => verdict(0),
         LeadIn::Refused(refusal) => refused(refusal),
+    }
+}
+
+// Of the fault of a catalogue and plans.
+pub fn found(answer: Fault) -> Word {
+    match answer {
+        Fault::Nothing => blank(),
+        Fault::Found(refusal) => refused(refusal),
     }
 }

@@ -1,4 +1,4 @@
-// Printing: answers, each behind a space and letters as document 01 writes them, and counts.
+// Printing: answers, each behind a space and letters as the manual writes them, and counts.
 
 use cases_solver::Word;
 use cases_solver::at;
@@ -61,6 +61,7 @@ fn no(call: u8) {
         b'e' => text(b" not equal"),
         b'l' => text(b" apart"),
         b'r' => text(b" not in conflict"),
+        b'f' => text(b" no fault"),
         _ => text(b" no lead-in"),
     }
 }

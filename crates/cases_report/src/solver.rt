@@ -11,6 +11,7 @@ use cases_solver::or;
 use cases_solver::refusal_of_catalogue;
 use cases_solver::refusal_of_form;
 use cases_solver::refusal_of_loops;
+use cases_solver::refusal_of_three;
 use cases_solver::same;
 use cases_solver::tied;
 use cases_solver::with;
@@ -33,6 +34,7 @@ pub fn solved(call: u8, c: &[u8], v: &[u8], w: &[u8], u: &[u8], room: usize) -> 
             refusal_of_loops(c, v, w, room),
             verdict(joined(c, v, w) as u8),
         ),
+        b'f' => refusal_of_three(c, v, w, u),
         _ => verdict(leads(c, v, w, u, u.len()) as u8),
     }
 }

@@ -17,6 +17,7 @@ pub use refusals::refusal;
 pub use refusals::refusal_of_catalogue;
 pub use refusals::refusal_of_form;
 pub use refusals::refusal_of_loops;
+pub use refusals::refusal_of_three;
 pub use word::Word;
 pub use word::at;
 pub use word::blank;

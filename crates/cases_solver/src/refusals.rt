@@ -116,11 +116,20 @@ pub fn refusal_of_form(c: &[u8], plan: &[u8], room: usize) -> Word {
     or(first, small_area(room, 1, plan.len()))
 }
 
+// Of two plans, whatever the area.
+fn refusal_of_two(c: &[u8], v: &[u8], w: &[u8]) -> Word {
+    or(refusal_of_form(c, v, v.len()), refused(c, w, 7, 9, 2))
+}
+
 // Of two loops.
 pub fn refusal_of_loops(c: &[u8], v: &[u8], w: &[u8], room: usize) -> Word {
-    let first = or(refusal_of_form(c, v, v.len()), refused(c, w, 7, 9, 2));
     or(
-        first,
+        refusal_of_two(c, v, w),
         small_area(room, at(c, 0) as usize, v.len() + w.len()),
     )
+}
+
+// Of two plans and a lead-in, which is never too long here, whatever the areas.
+pub fn refusal_of_three(c: &[u8], v: &[u8], w: &[u8], u: &[u8]) -> Word {
+    or(refusal_of_two(c, v, w), refused(c, u, 8, 9, 3))
 }

@@ -2,7 +2,7 @@
 // It has six parts: w, u, the area (of which the size counts), the catalogue and the name of a case, of at most 540
 // bytes each, and v, of at most 1,100. Before them stand the sizes of the parts, two bytes each, low byte first, and
 // at place 19 the letter of the call: r (reading the catalogue: whether the two commands of v conflict), n (normal
-// form), c (core), e (equal), l (loops) or j (whether u leads from v to w).
+// form), c (core), e (equal), l (loops), f (fault) or j (whether u leads from v to w).
 
 ghost use Prim.Native.Nat.{_<_};
 use cases_solver::at;

@@ -1,8 +1,8 @@
--- What each case of a call's answer says in document 01's numbers.
+-- What each case of a call's answer says in the manual's numbers.
 use Prim.Native.Nat.{ℕ}
 use mathlib.Core.Bool.{Bool, true, false}
 use mathlib.Core.Option.{Option, none, some}
-use Rattle.spec.specs.Table.{Answer, refused, given, lineOf}
+use Rattle.spec.specs.Table.{Line, Answer, refused, given, lineOf}
 use Rattle.spec.specs.declared.Catalogue.{Catalogue}
 use Rattle.spec.specs.declared.Catalogue.the-variants as catalogue
 use Rattle.spec.specs.declared.Written.{Written}
@@ -14,6 +14,8 @@ use Rattle.spec.specs.declared.Loops.the-variants as loops
 use Rattle.spec.specs.declared.LeadIn.{LeadIn}
 use Rattle.spec.specs.declared.LeadIn.the-variants as lead-in
 use Rattle.spec.specs.declared.Lengths.{Lengths}
+use Rattle.spec.specs.declared.Fault.{Fault}
+use Rattle.spec.specs.declared.Fault.the-variants as fault
 
 -- yes and no as numbers
 abbrev pub yesNo : Bool → ℕ
@@ -55,3 +57,8 @@ abbrev pub toldLeadIn : LeadIn → Answer CheckedLeadIn
 toldLeadIn (lead-in.Yes l) = given (checked true l)
 toldLeadIn (lead-in.No l) = given (checked false l)
 toldLeadIn (lead-in.Refused r) = refused (lineOf r)
+
+-- a line, or none
+abbrev pub toldFault : Fault → Option Line
+toldFault fault.Nothing = none
+toldFault (fault.Found r) = some (lineOf r)

@@ -10,7 +10,7 @@ use mathlib.Core.Option.{Option, none, some}
 use mathlib.Core.Logic.{_↔_, _⊎_}
 use lib.ListN.{length, take, drop, getD}
 use Rattle.spec.specs.Table.{Line, line, Answer, refused, given, firstLine, orElse, orKept, NoneHolds, FirstHolds}
-use Rattle.spec.specs.Catalogue.{commands, countLine}
+use Rattle.spec.specs.Catalogue.{commands, countLine, catalogueLines}
 use Rattle.spec.specs.Conflict.{conflict, Conflicting}
 use Rattle.spec.specs.Byte.{undone, undoOf}
 use Rattle.spec.specs.Step.{Command, Equal}
@@ -19,8 +19,9 @@ use Rattle.spec.specs.Join.{Joins}
 use Rattle.spec.specs.Core.{Swaps, Least, CyclicallyReduced, TakenOff}
 use Rattle.spec.specs.Answers.{yesNo, CheckedLeadIn}
 use Rattle.spec.specs.Calls.{normalFormAnswer, normalFormArea, coreForm, coreAnswer, coreArea}
-use Rattle.spec.specs.Calls.{catalogueAnswer, catalogueTable, equalAnswer}
-use Rattle.spec.specs.Loops.{loopsLines, Looped, LeadIn, checkAnswer}
+use Rattle.spec.specs.Calls.{catalogueAnswer, catalogueTable, normalFormLines, equalLines, equalAnswer}
+use Rattle.spec.specs.Loops.{loopsLines, Looped, LeadIn, checkLines, checkAnswer}
+use Rattle.spec.specs.Fault.{faultLines, faultAnswer}
 use Rattle.spec.specs.Framing.{Framed, wellFramed, catalogueOf, plan1Of, plan2Of}
 use Rattle.spec.specs.Listing.{Printed}
 use Rattle.spec.specs.Program.{programLines, programAnswer}
@@ -91,6 +92,24 @@ pub record Demand3 : Type 0 where
   pub check : (c v w u area0 area1 : List ℕ) (k : CheckedLeadIn) → checkAnswer c v w u area0 area1 ≡ given k
       → (k .yes ≡ true) ↔ Joins c v w u
 
+-- the fault of catalogue c and plans v, w, u, where there is one, is what a call with the lines ls is refused for; where
+-- there is none, the call is refused for an area, by line 9, or not at all
+pub record Explains (c v w u : List ℕ) (ls : List (Option Line)) : Type 0 where
+  pub refuses : (l : Line) → faultAnswer c v w u ≡ some l → FirstHolds l ls
+  pub else-area : faultAnswer c v w u ≡ none → (l : Line) → FirstHolds l ls → l .number ≡ 9
+
+-- The fault call tells exactly the first of lines 1 to 8 that holds, of the catalogue or of plan 1, 2 or 3, and so it
+-- explains each refusal of each call, with empty plans where the call has fewer.
+pub record FaultDemand : Type 0 where
+  pub exactly : (c v w u : List ℕ) (l : Line) → (faultAnswer c v w u ≡ some l) ↔ FirstHolds l (faultLines c v w u)
+  pub among : (c v w u : List ℕ) (l : Line) → faultAnswer c v w u ≡ some l
+      → (1 ≤ l .number) × (l .number ≤ 8) × (l .plan ≤ 3)
+  pub catalogue : (c : List ℕ) → Explains c [] [] [] (catalogueLines c)
+  pub form : (c v area : List ℕ) → Explains c v [] [] (normalFormLines c v area)
+  pub equal : (c v w : List ℕ) → Explains c v w [] (equalLines c v w)
+  pub loops : (c v w area : List ℕ) → Explains c v w [] (loopsLines c v w area)
+  pub check : (c v w u area0 area1 : List ℕ) → Explains c v w u (checkLines c v w u area0 area1)
+
 -- The program's input is computed to be well framed exactly if it is some catalogue and two plans, well framed, and
 -- then those are the parts that are computed.
 pub record FramingDemand : Type 0 where
@@ -107,7 +126,7 @@ pub record ProgramDemand : Type 0 where
       → (l ≡ length (coreForm (catalogueOf s) (plan1Of s))) × (l ≡ length (coreForm (catalogueOf s) (plan2Of s)))
   pub settled : (c v w : List ℕ) (p i : ℕ) → ¬ FirstHolds (line 10 p i) (programLines c v w)
 
--- What document 01 says of all plans: with at most 24 commands each differs from its undo, and all shortest plans of
+-- What the manual says of all plans: with at most 24 commands each differs from its undo, and all shortest plans of
 -- one effect differ by swaps alone.
 pub record PlansDemand : Type 0 where
   pub undo-differs : (c : List ℕ) (b : ℕ) → countLine c ≡ none → Command c b → ¬ (undone b ≡ b)

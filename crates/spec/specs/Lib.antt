@@ -13,6 +13,7 @@ pub mod Letters
 pub mod Answers
 pub mod Calls
 pub mod Loops
+pub mod Fault
 pub mod Codes
 pub mod Framing
 pub mod Listing

@@ -1,7 +1,8 @@
-// What must be believed, and nothing else: the types of the answers here, and in specs/ the definitions that document
-// 01 words, with the statements of the demands (specs/Demands.antt). The crate spec_laws proves those statements.
+// What must be believed, and nothing else: the types of the answers here, and in specs/ the definitions of what the
+// manual says (docs/MANUAL.md), with the statements of the demands (specs/Demands.antt). The crate spec_laws proves
+// those statements.
 
-// The lines of document 01's table, in its order.
+// The lines of the manual's table, in its order (docs/MANUAL.md, "Refusals").
 pub enum Reason {
     CatalogueSize,
     CommandCount,
@@ -59,6 +60,12 @@ pub enum LeadIn {
     Yes(Lengths),
     No(Lengths),
     Refused(Refusal),
+}
+
+// What is wrong with a catalogue and its plans: nothing, or what a call with them is refused for.
+pub enum Fault {
+    Nothing,
+    Found(Refusal),
 }
 
 // What the program says: two loops are joined and their core has so many letters, or they are apart, or the input is

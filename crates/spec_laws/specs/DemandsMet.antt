@@ -27,12 +27,15 @@ use Rattle.spec_laws.specs.CoreFormLaws.{core-of}
 use Rattle.spec_laws.specs.SearchLaws.{given-not}
 use Rattle.spec.specs.Step.{Equal}
 use Rattle.spec.specs.Demands.{Demand1, Demand2, Demand3, Shortest, Exact, IsCore}
-use Rattle.spec.specs.Demands.{CatalogueDemand, CoreDemand, ProgramDemand, PlansDemand}
+use Rattle.spec.specs.Demands.{CatalogueDemand, CoreDemand, FaultDemand, ProgramDemand, PlansDemand}
 use Rattle.spec.specs.Calls.{planLimit, areaLine, areaAfter, normalFormLines, normalFormAnswer, normalFormArea}
 use Rattle.spec.specs.Calls.{catalogueAnswer, catalogueTable, coreForm, coreAnswer, coreArea, equalLines, equalAnswer}
 use Rattle.spec.specs.Answers.{yesNo, CheckedLeadIn}
 use Rattle.spec.specs.Loops.{leadInRoom, loopsLines, Looped, refuses, apart, joined, LeadIn, checkLines, checkAnswer}
 use Rattle.spec_laws.specs.UnsettledLaws.{never-ten}
+use Rattle.spec.specs.Fault.{faultLines}
+use Rattle.spec_laws.specs.FaultLaws.{catalogue-explained, form-explained, equal-explained, loops-explained}
+use Rattle.spec_laws.specs.FaultLaws.{check-explained, fault-numbered}
 use Rattle.spec.specs.Program.{programLines}
 use Rattle.spec_laws.specs.VerdictLaws.{verdict-printed, verdict-cores}
 use Rattle.spec_laws.specs.LoopLaws.{loops-pass, none-joins, check-pass}
@@ -233,6 +236,20 @@ demand-3 =
       check = check-demand;
     }
 
+-- The fault call
+
+pub demand-fault : FaultDemand
+demand-fault =
+    record {
+      exactly = λ c v w u l. first-holds (faultLines c v w u) l;
+      among = fault-numbered;
+      catalogue = catalogue-explained;
+      form = form-explained;
+      equal = equal-explained;
+      loops = loops-explained;
+      check = check-explained;
+    }
+
 -- The program
 
 program-settled : (c v w : List ℕ) (p i : ℕ) → ¬ FirstHolds (line 10 p i) (programLines c v w)
@@ -242,7 +259,7 @@ pub demand-program : ProgramDemand
 demand-program =
     record { verdict = verdict-printed; either-core = verdict-cores; settled = program-settled }
 
--- What document 01 says of all plans
+-- What the manual says of all plans
 
 pub demand-plans : PlansDemand
 demand-plans =

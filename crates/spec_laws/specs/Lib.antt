@@ -18,6 +18,7 @@ pub mod CoreFormLaws
 pub mod CallLaws
 pub mod LoopLaws
 pub mod UnsettledLaws
+pub mod FaultLaws
 pub mod VerdictLaws
 pub mod CodeLaws
 pub mod DemandsMet
