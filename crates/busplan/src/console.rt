@@ -2,9 +2,10 @@
 // which spec/specs/Codes.antt gives for each case of a call's answer.
 
 ghost use mathlib.Core.Path.{_≡_};
-ghost use Rattle.spec.specs.Codes.{lengthCode, equalCode, LoopedCode, checkCode};
+ghost use Rattle.spec.specs.Codes.{lengthCode, equalCode, LoopedCode, checkCode, faultCode};
 ghost use Rattle.spec.specs.Calls.{normalFormAnswer, normalFormArea, equalAnswer};
 ghost use Rattle.spec.specs.Loops.{checkAnswer, checkArea0, checkArea1};
+ghost use Rattle.spec.specs.Fault.{faultAnswer, faultNumbers};
 
 #[no_mangle]
 pub extern "C" fn busplan_normal_form(catalogue: &[u8], plan: &[u8], area: &mut [u8]) -> i64
@@ -48,4 +49,23 @@ pub extern "C" fn busplan_lead_in_check(
         (now (u .entry)) (now (area0 .entry)) (now (area1 .entry)) ⌝ }
 {
     call_codes::check_code(crate::lead_in_check(catalogue, v, w, u, area0, area1))
+}
+
+// fault receives the plan and the place.
+#[no_mangle]
+pub extern "C" fn busplan_fault(
+    catalogue: &[u8],
+    v: &[u8],
+    w: &[u8],
+    u: &[u8],
+    fault: &mut [u64; 2],
+) -> i64
+    ensures answer { λ r. ⌜ r ≡ faultCode (faultAnswer (now (catalogue .entry)) (now (v .entry)) (now (w .entry))
+        (now (u .entry))) ⌝ }
+    ensures numbers { λ r. ⌜ now (fault .exit) ≡ faultNumbers (faultAnswer (now (catalogue .entry)) (now (v .entry))
+        (now (w .entry)) (now (u .entry))) (now (fault .entry)) ⌝ }
+{
+    let found = crate::fault(catalogue, v, w, u);
+    *fault = call_codes::fault_numbers(found, *fault);
+    call_codes::fault_code(found)
 }

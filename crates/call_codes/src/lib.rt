@@ -7,15 +7,17 @@ ghost use lib.IntN.{pos, negℤ};
 ghost use Rattle.spec.specs.Table.{numberOf};
 ghost use Rattle.spec.specs.declared.Written.the-variants.{Length};
 ghost use Rattle.spec.specs.declared.Loops.the-variants.{Joined};
-ghost use Rattle.spec.specs.Answers.{toldWritten, toldEquality, toldLoops, toldLeadIn};
-ghost use Rattle.spec.specs.Codes.{lengthCode, equalCode, loopsCode, checkCode};
+ghost use Rattle.spec.specs.Answers.{toldWritten, toldEquality, toldLoops, toldLeadIn, toldFault};
+ghost use Rattle.spec.specs.Codes.{lengthCode, equalCode, loopsCode, checkCode, faultCode};
+ghost use Rattle.spec.specs.Fault.{faultNumbers};
 use spec::Equality;
+use spec::Fault;
 use spec::LeadIn;
 use spec::Loops;
 use spec::Reason;
 use spec::Written;
 
-// The number that document 01's table gives a reason.
+// The number that the manual's table gives a reason.
 pub fn number(reason: Reason) -> u8
     ensures { λ r. ⌜ r ≡ numberOf reason ⌝ }
 {
@@ -91,5 +93,27 @@ pub fn check_code(answer: LeadIn) -> i64
             let reason = refusal.reason;
             refusal_code(reason)
         }
+    }
+}
+
+pub fn fault_code(fault: Fault) -> i64
+    ensures { λ r. ⌜ r ≡ faultCode (toldFault fault) ⌝ }
+{
+    match fault {
+        Fault::Nothing => 0,
+        Fault::Found(refusal) => {
+            let reason = refusal.reason;
+            refusal_code(reason)
+        }
+    }
+}
+
+// The plan and the place of a fault, or the numbers that were there if there is none.
+pub fn fault_numbers(fault: Fault, numbers: [u64; 2]) -> [u64; 2]
+    ensures { λ r. ⌜ r ≡ faultNumbers (toldFault fault) numbers ⌝ }
+{
+    match fault {
+        Fault::Nothing => numbers,
+        Fault::Found(refusal) => [refusal.plan as u64, refusal.place as u64],
     }
 }

@@ -1,18 +1,21 @@
 -- What the console gets for each answer: a length, or yes (1) or no (0); for loops the lead-in's length plus 1, or 0
--- for apart; and minus the refusal number.
+-- for apart; and minus the refusal number. Of a fault it gets that number too, or 0 where there is none.
 use Prim.Native.Nat.{ℕ, suc}
 use mathlib.Core.Path.{_≡_}
 use mathlib.Core.Bool.{Bool}
 use mathlib.Core.List.{List}
 use mathlib.Core.Option.{Option, none, some}
 use lib.IntN.{ℤ, pos, negℤ}
-use Rattle.spec.specs.Table.{Answer, refused, given}
+use Rattle.spec.specs.Table.{Line, Answer, refused, given}
 use Rattle.spec.specs.Answers.{yesNo, CheckedLeadIn}
 use Rattle.spec.specs.Loops.{Looped}
 
+abbrev pub lineCode : Line → ℤ
+lineCode l = negℤ (pos (l .number))
+
 abbrev pub code : {A : Type 0} → (A → ℕ) → Answer A → ℤ
 code f (given a) = pos (f a)
-code f (refused l) = negℤ (pos (l .number))
+code f (refused l) = lineCode l
 
 abbrev pub leadInCode : Option ℕ → ℕ
 leadInCode none = 0
@@ -29,6 +32,10 @@ loopsCode = code leadInCode
 
 abbrev pub checkCode : Answer CheckedLeadIn → ℤ
 checkCode = code (λ k. yesNo (k .yes))
+
+abbrev pub faultCode : Option Line → ℤ
+faultCode none = pos 0
+faultCode (some l) = lineCode l
 
 -- the number and the final area of the loops call, whose lead-in is left free
 pub record LoopedCode (c v w area : List ℕ) (r : ℤ) (after : List ℕ) : Type 0 where
