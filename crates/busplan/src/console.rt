@@ -3,7 +3,7 @@
 
 ghost use mathlib.Core.Path.{_≡_};
 ghost use Rattle.spec.specs.Codes.{lengthCode, equalCode, LoopedCode, checkCode, faultCode};
-ghost use Rattle.spec.specs.Calls.{normalFormAnswer, normalFormArea, equalAnswer};
+ghost use Rattle.spec.specs.Calls.{normalFormAnswer, normalFormArea, coreAnswer, coreArea, equalAnswer};
 ghost use Rattle.spec.specs.Loops.{checkAnswer, checkArea0, checkArea1};
 ghost use Rattle.spec.specs.Fault.{faultAnswer, faultNumbers};
 
@@ -15,6 +15,16 @@ pub extern "C" fn busplan_normal_form(catalogue: &[u8], plan: &[u8], area: &mut 
         ≡ normalFormArea (now (catalogue .entry)) (now (plan .entry)) (now (area .entry)) ⌝ }
 {
     call_codes::length_code(crate::normal_form(catalogue, plan, area))
+}
+
+#[no_mangle]
+pub extern "C" fn busplan_core(catalogue: &[u8], plan: &[u8], area: &mut [u8]) -> i64
+    ensures answer { λ r. ⌜ r
+        ≡ lengthCode (coreAnswer (now (catalogue .entry)) (now (plan .entry)) (now (area .entry))) ⌝ }
+    ensures bytes { λ r. ⌜ now (area .exit)
+        ≡ coreArea (now (catalogue .entry)) (now (plan .entry)) (now (area .entry)) ⌝ }
+{
+    call_codes::length_code(crate::core(catalogue, plan, area))
 }
 
 #[no_mangle]

@@ -6,26 +6,33 @@ use mathlib.Core.Option.{Option, none, some}
 use native.Mathlib.Omega.{arith}
 use native.Mathlib.Nat.{mul-le-mul-left, mul-le-mul-right}
 use lib.ListN.{length}
-use Rattle.spec.specs.Table.{Answer, given, firstLine}
+use Rattle.spec.specs.Table.{Line, Answer, given, firstLine, orElse}
 use Rattle.spec_laws.specs.TableLaws.{none-left, none-right}
 use Rattle.spec.specs.Catalogue.{commands, catalogueLines}
 use Rattle.spec.specs.Plan.{planLines}
 use Rattle.spec_laws.specs.PlanLaws.{lines-pass}
 use Rattle.spec.specs.Letters.{normalForm}
 use Rattle.spec_laws.specs.NormalFormLaws.{normal-length}
+use Rattle.spec_laws.specs.CoreFormLaws.{core-form-length}
 use Rattle.spec.specs.declared.Written.{Written}
 use Rattle.spec.specs.declared.Written.the-variants.{Length}
 use Rattle.spec.specs.Answers.{toldWritten}
-use Rattle.spec.specs.Calls.{planLimit, areaLine, normalFormLines, normalFormAnswer}
+use Rattle.spec.specs.Calls.{planLimit, areaLine, normalFormLines, normalFormAnswer, coreForm, coreAnswer}
 use Rattle.spec_laws.specs.CallLaws.{answer-given, few-commands}
 use Rattle.spec.specs.Loops.{leadInRoom, leadInLimit, unsettledLine, loopsLines, Looped, refuses, apart, joined}
 
-pub written-length : (c v area : List ℕ) {r : Written} (l : ℕ)
-    → toldWritten r ≡ normalFormAnswer c v area → r ≡ Length l → l ≤ length v
-written-length c v area l e k =
-    let o = firstLine (normalFormLines c v area) in
-    let h = answer-given o (length (normalForm c v)) l (sym e ∙ ap toldWritten k) in
-    omega (arith, normal-length c v, h .1)
+-- a plan z that is written, no longer than v
+written-length : (o : Option Line) (v z : List ℕ) → length z ≤ length v → {r : Written} (l : ℕ)
+    → toldWritten r ≡ orElse o (length z) → r ≡ Length l → l ≤ length v
+written-length o v z h l e k = omega (arith, h, answer-given o (length z) l (sym e ∙ ap toldWritten k) .1)
+
+module _ (c v area : List ℕ) {r : Written} (l : ℕ) where
+  pub normal-form-short : toldWritten r ≡ normalFormAnswer c v area → r ≡ Length l → l ≤ length v
+  normal-form-short =
+      written-length (firstLine (normalFormLines c v area)) v (normalForm c v) (normal-length c v) l
+
+  pub core-short : toldWritten r ≡ coreAnswer c v area → r ≡ Length l → l ≤ length v
+  core-short = written-length (firstLine (normalFormLines c v area)) v (coreForm c v) (core-form-length c v) l
 
 -- the room of a lead-in between plans that no line refuses
 room-limit : (c v w area : List ℕ) → firstLine (loopsLines c v w area) ≡ none → leadInRoom c v w ≤ leadInLimit

@@ -1,4 +1,4 @@
--- What the core call writes is the plan's core as document 01 words it over plans: pairs that swaps alone bring to the
+-- What the core call writes is the plan's core as the manual words it over plans: pairs that swaps alone bring to the
 -- ends of a plan are those that the core of its word is found by.
 use Prim.Native.Nat.{ℕ, _+_, _≤_}
 use mathlib.Core.Path.{_≡_, _∙_, subst}
@@ -15,6 +15,7 @@ use Rattle.theory_words.specs.Group.{undo, then, back}
 use Rattle.theory_words.specs.GroupLaws.{~→≈, ≈-before, ≈-after, pick-undo, first-undo, undo-onto, undo-length}
 use Rattle.theory_words.specs.Reduce.{reduce}
 use Rattle.theory_words.specs.ReduceLaws.{reduced-~, reduce-reduced, reduce-≈, reduce-fixed, reduce-least}
+use Rattle.theory_words.specs.ReduceLaws.{reduce-length}
 use Rattle.theory_words.specs.NormalLaws.{nf-~, nf-reduced, nf-ordered, nf-fixed}
 use Rattle.theory_conjugacy.specs.Turn.{Tight}
 use Rattle.theory_conjugacy.specs.TurnLaws.{tight-along, turns-length}
@@ -89,6 +90,12 @@ module _ (c : List ℕ) where
   form-~ v =
       let z = core (alphabet c) (letters v) in
       rw (reduce-fixed (alphabet c) z (core-reduced (alphabet c) (letters v))) at (nf-~ (alphabet c) z)
+
+  -- and it is no longer than the plan
+  pub core-form-length : (v : List ℕ) → length (coreForm c v) ≤ length v
+  core-form-length v =
+      let g = alphabet c in
+      omega (arith, ~-length g (form-~ v), core-length g (letters v), reduce-length g (letters v), letters-length v)
 
   module _ (v : List ℕ) (h : Passing n v) where
     abbrev inside : List ℕ

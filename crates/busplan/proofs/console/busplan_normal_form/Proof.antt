@@ -4,7 +4,7 @@ use native.Mathlib.Omega.{arith}
 use mir.Syntax.{w64}
 use mir.ValLaws.{toZ-ofZ}
 use Rattle.spec.specs.Codes.{lengthCode}
-use Rattle.spec_laws.specs.CodeLaws.{written-length}
+use Rattle.spec_laws.specs.CodeLaws.{normal-form-short}
 use borrow.Author.Needs.{needs}
 use Rattle.busplan.proofs.console.busplan_normal_form.Statement.{statement}
 use Rattle.busplan.proofs.console.busplan_normal_form.Tie as tie
@@ -18,7 +18,7 @@ length-code-requires c κs = λ l e.
     let f = c .before .before in
     let s = start f in
     let a = s .args in
-    let h = written-length (a .catalogue .now) (a .plan .now) (a .area .now) l (f .normal-form .ensures .0) e in
+    let h = normal-form-short (a .catalogue .now) (a .plan .now) (a .area .now) l (f .normal-form .ensures .0) e in
     omega (arith, h, s .good .1 .0 .1)
 
 returns : tie.Need-returns
