@@ -21,5 +21,6 @@ pub mod UnsettledLaws
 pub mod FaultLaws
 pub mod VerdictLaws
 pub mod CodeLaws
+pub mod FitLaws
 pub mod DemandsMet
 pub mod CasesHold

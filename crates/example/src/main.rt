@@ -1,0 +1,16 @@
+// A caller of the library: prints how many letters the normal form of (1, 3, -1) has under the manual's catalogue K.
+
+fn main() {
+    let catalogue = [4u8, 3, 1, 2, 3, 0, 2, 0, 3, 0, 4, 0];
+    let plan = [1u8, 3, 129];
+    let mut area = [0u8; 3];
+    let written = busplan::normal_form(&catalogue, &plan, &mut area);
+    match written {
+        busplan::Written::Length(l) => {
+            io::print_decimal(1, l as u64);
+        }
+        busplan::Written::Refused(refusal) => {
+            io::print_decimal(2, refusal.place as u64);
+        }
+    }
+}

@@ -1,0 +1,75 @@
+-- For callers: as many bytes as a call says that it has written are in the area. So a caller may take `area[..l]`.
+use Prim.Native.Nat.{ℕ, _≤_}
+use mathlib.Core.Path.{_≡_, refl, sym, _∙_, ap}
+use mathlib.Core.List.{List, _++_}
+use mathlib.Core.Option.{Option, none, some}
+use native.Mathlib.Omega.{arith}
+use lib.ListN.{length, drop, length-append}
+use Rattle.theory_words.specs.Alike.{alike?}
+use Rattle.spec.specs.Table.{Line, Answer, given, firstLine, orElse}
+use Rattle.spec_laws.specs.CallLaws.{answer-given}
+use Rattle.spec.specs.Letters.{normalForm}
+use Rattle.spec.specs.declared.Written.{Written}
+use Rattle.spec.specs.declared.Written.the-variants.{Length}
+use Rattle.spec.specs.declared.Loops.{Loops}
+use Rattle.spec.specs.declared.Loops.the-variants.{Joined}
+use Rattle.spec.specs.Answers.{toldWritten, toldLoops, CheckedLeadIn}
+use Rattle.spec.specs.Calls.{areaAfter, normalFormLines, normalFormAnswer, normalFormArea, coreForm, coreAnswer, coreArea}
+use Rattle.spec.specs.Loops.{Looped, refuses, apart, joined, checkLines, checkAnswer, checkArea0, checkArea1}
+
+-- bytes that stand at the start of a list
+at-start : (z rest after : List ℕ) → after ≡ z ++ rest → length z ≤ length after
+at-start z rest after e = omega (arith, ap length e, length-append z rest)
+
+-- where no line refuses, z stands at the start of the area
+after-fits : (o : Option Line) (z area after : List ℕ) → o ≡ none → after ≡ areaAfter o z area
+    → length z ≤ length after
+after-fits o z area after n e =
+    at-start z (drop (length z) area) after (e ∙ ap (λ p. areaAfter p z area) n)
+
+written-fits : (o : Option Line) (z area : List ℕ) {r : Written} {after : List ℕ} {l : ℕ}
+    → (toldWritten r ≡ orElse o (length z)) × (after ≡ areaAfter o z area) → r ≡ Length l → l ≤ length after
+written-fits o z area {after = after} {l = l} (e, b) k =
+    let (none-refuses, long) = answer-given o (length z) l (sym e ∙ ap toldWritten k) in
+    omega (arith, long, after-fits o z area after none-refuses b)
+
+module _ (c v area : List ℕ) {after : List ℕ} {r : Written} {l : ℕ} where
+  pub normal-form-fits : (toldWritten r ≡ normalFormAnswer c v area) × (after ≡ normalFormArea c v area)
+      → r ≡ Length l → l ≤ length after
+  normal-form-fits = written-fits (firstLine (normalFormLines c v area)) (normalForm c v) area
+
+  pub core-fits : (toldWritten r ≡ coreAnswer c v area) × (after ≡ coreArea c v area) → r ≡ Length l → l ≤ length after
+  core-fits = written-fits (firstLine (normalFormLines c v area)) (coreForm c v) area
+
+looped-fits : {c v w area after : List ℕ} {t : Answer (Option ℕ)} {l : ℕ} → Looped c v w area t after
+    → t ≡ given (some l) → l ≤ length after
+looped-fits (refuses e) k = absurd (let z : _≡_ {A = ℕ} 0 1 = cc in omega arith)
+looped-fits (apart e d) k = absurd (let z : _≡_ {A = ℕ} 0 1 = cc in omega arith)
+looped-fits {area = area} {l = l} (joined {u} e d h) k =
+    let m : length u ≡ l = cc in
+    omega (arith, m, at-start u (drop (length u) area) (u ++ drop (length u) area) refl)
+
+pub lead-in-fits : {c v w area after : List ℕ} {r : Loops} {l : ℕ} → Looped c v w area (toldLoops r) after
+    → r ≡ Joined l → l ≤ length after
+lead-in-fits h e = looped-fits h (ap toldLoops e)
+
+module _ (c v w u area0 area1 : List ℕ) {after0 after1 : List ℕ} (k : CheckedLeadIn) where
+  pub check-fits : checkAnswer c v w u area0 area1 ≡ given k → after0 ≡ checkArea0 c v w u area0 area1
+      → after1 ≡ checkArea1 c v w u area0 area1 → (k .vu ≤ length after0) × (k .uw ≤ length after1)
+  check-fits e b0 b1 =
+      let (n, same) = answer-given o result k e in (
+        omega (arith, ap (λ x. x .vu) same, after-fits o vu area0 after0 n b0),
+        omega (arith, ap (λ x. x .uw) same, after-fits o uw area1 after1 n b1),
+      )
+    where
+      o : Option Line
+      o = firstLine (checkLines c v w u area0 area1)
+
+      vu : List ℕ
+      vu = normalForm c (v ++ u)
+
+      uw : List ℕ
+      uw = normalForm c (u ++ w)
+
+      result : CheckedLeadIn
+      result = record { yes = alike? vu uw; vu = length vu; uw = length uw }
