@@ -1,5 +1,6 @@
-/* The four calls of document 01 on pilings with one byte a bead, written for speed. It keeps nothing between calls, and
- * takes up to 1.4 megabytes of stack. It never gives refusal 10, which cannot come up. See beads.h. */
+/* Four calls of docs/MANUAL.md, normal form, equal, loops and lead-in check, on pilings with one byte a bead, written
+ * for speed. It keeps nothing between calls, and takes up to 1.4 megabytes of stack. It never gives refusal 10, which
+ * cannot come up. See beads.h. */
 #include "beads.h"
 
 #include "busplan.h"

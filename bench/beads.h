@@ -1,4 +1,4 @@
-/* The four calls of busplan.h in hand-written C: what the library is measured beside. */
+/* Four calls of busplan.h in hand-written C: what the library is measured beside. */
 #ifndef BEADS_H
 #define BEADS_H
 

@@ -1,4 +1,4 @@
-// Settling a word on its apex, in place: document 01's rounds, each a split of the word and an exchange of its halves.
+// Settling a word on its apex, in place: the manual's rounds, each a split of the word and an exchange of its halves.
 // The letters that the rounds cycle are written out one round after the other.
 
 use array_sets::add;

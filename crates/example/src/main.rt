@@ -5,12 +5,9 @@ fn main() {
     let plan = [1u8, 3, 129];
     let mut area = [0u8; 3];
     let written = busplan::normal_form(&catalogue, &plan, &mut area);
-    match written {
-        busplan::Written::Length(l) => {
-            io::print_decimal(1, l as u64);
-        }
-        busplan::Written::Refused(refusal) => {
-            io::print_decimal(2, refusal.place as u64);
-        }
+    if let busplan::Written::Length(l) = written {
+        io::print_decimal(1, l as u64);
+    } else {
+        io::write_all(2, b"refused\n");
     }
 }

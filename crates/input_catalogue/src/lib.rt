@@ -1,4 +1,4 @@
-// The form of a catalogue: `check` decides lines 1 to 4 of document 01's table for any bytes, each line over the whole
+// The form of a catalogue: `check` decides lines 1 to 4 of the manual's table for any bytes, each line over the whole
 // catalogue before the next. The crate spec states the lines (specs/Catalogue.antt).
 
 ghost use mathlib.Core.Path.{_≡_};

@@ -1,4 +1,4 @@
-// Reading a catalogue: `read` decides lines 1 to 6 of document 01's table for any bytes and, where none holds, leaves
+// Reading a catalogue: `read` decides lines 1 to 6 of the manual's table for any bytes and, where none holds, leaves
 // the conflicts in the rows. A chain that several commands have is walked once.
 
 ghost use mathlib.Core.Path.{_≡_};

@@ -1,4 +1,4 @@
-// Plans of bytes: `check` decides lines 7 and 8 of document 01's table for any bytes of any length, and `undo` gives
+// Plans of bytes: `check` decides lines 7 and 8 of the manual's table for any bytes of any length, and `undo` gives
 // the byte that undoes another.
 
 use input_catalogue::Checked;

@@ -1,4 +1,4 @@
--- The calls, as document 01 words them: for each the lines of the table that can refuse it, in their order, and then
+-- The calls (docs/MANUAL.md, "Calls"): for each the lines of the table that can refuse it, in their order, and then
 -- its answer and the final bytes of its area from what is handed in and the area as it was.
 use Prim.Native.Nat.{ℕ}
 use mathlib.Core.Bool.{Bool}

@@ -1,4 +1,4 @@
--- Document 01's starred bench cases as one table, and the sentence that the definitions of the calls yield each row;
+-- The manual's starred cases as one table, and the sentence that the definitions of the calls yield each row;
 -- the crate spec_laws proves it (CasesHold).
 use Prim.Native.Nat.{ℕ}
 use mathlib.Core.Path.{_≡_}
@@ -14,7 +14,7 @@ use Rattle.spec.specs.Loops.{leadInRoom, loopsLines, Looped, checkAnswer
 abbrev pub K : List ℕ
 K = 4 ∷ 3 ∷ 1 ∷ 2 ∷ 3 ∷ 0 ∷ 2 ∷ 0 ∷ 3 ∷ 0 ∷ 4 ∷ 0 ∷ []
 
--- document 01's −1, −2 and −3: the undos of commands 1, 2 and 3
+-- the manual's −1, −2 and −3: the undos of commands 1, 2 and 3
 abbrev pub undo1 : ℕ
 undo1 = 129
 

@@ -1,4 +1,4 @@
--- The catalogue's layout, and lines 1 to 6 of document 01's table over any bytes.
+-- The catalogue's layout (docs/MANUAL.md, "Catalogue"), and lines 1 to 6 of the manual's table over any bytes.
 -- Byte 0 is N, byte 1 is R, then N heads, then R records of two bytes: a command and the index of the next record.
 use Prim.Native.Nat.{ℕ, zero, suc, _+_, _*_}
 use mathlib.Core.Bool.{Bool, true, false, not, _&&_, _||_}

@@ -1,5 +1,6 @@
--- Document 01's input of the program loops: a catalogue, whose length its first two bytes tell, then for each of two
--- plans a count in two bytes, low byte first, and that many bytes; nothing after, and at most 4,096 bytes in all.
+-- The input of the program loops (docs/MANUAL.md, "Program"): a catalogue, whose length its first two bytes tell, then
+-- for each of two plans a count in two bytes, low byte first, and that many bytes; nothing after, and at most 4,096
+-- bytes in all.
 use Prim.Native.Nat.{ℕ, _+_, _*_, _≤_}
 use mathlib.Core.Path.{_≡_}
 use mathlib.Core.Bool.{Bool, _&&_}

@@ -1,5 +1,5 @@
--- Document 01's output of the program loops: the line `loops 1`, then `joined c`, or `apart`, or `refused`, number,
--- plan and place, with single spaces, in decimal; each line ends with a newline.
+-- The output of the program loops (docs/MANUAL.md, "Program"): the line `loops 1`, then `joined c`, or `apart`, or
+-- `refused`, number, plan and place, with single spaces, in decimal; each line ends with a newline.
 use Prim.Native.Nat.{ℕ, _+_, _*_, _<_}
 use Prim.Native.Char.{code}
 use Prim.Native.String.{String, [] as nothing, _∷_ as _then_}

@@ -1,4 +1,4 @@
--- The loops call and the lead-in check, as document 01 words them: the lines of the table that can refuse each, its
+-- The loops call and the lead-in check (docs/MANUAL.md, "Calls"): the lines of the table that can refuse each, its
 -- answer, and the final bytes of its areas. Only the lead-in of two joined loops is left free.
 use Prim.Native.Nat.{ℕ, _+_, _*_, _≤_}
 use mathlib.Core.Path.{_≡_}

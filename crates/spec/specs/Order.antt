@@ -1,4 +1,4 @@
--- Document 01's order of plans of one length: the letters stand in the order 1, −1, 2, −2, and so on, and the first
+-- The manual's order of plans of one length: the letters stand in the order 1, −1, 2, −2, and so on, and the first
 -- difference decides.
 use Prim.Native.Nat.{ℕ, _+_, _*_, _/_, _<_}
 use mathlib.Core.List.{List, _∷_}

@@ -1,4 +1,4 @@
--- The bytes of a plan, and lines 7 and 8 of document 01's table.
+-- The bytes of a plan (docs/MANUAL.md, "Plan"), and lines 7 and 8 of the manual's table.
 -- Byte k, 1 to N, does command k; byte 128 + k undoes it; byte 0 is a filler.
 use Prim.Native.Nat.{ℕ, _+_}
 use mathlib.Core.Path.{_≡_}

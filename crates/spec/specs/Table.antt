@@ -1,5 +1,5 @@
--- Document 01's table as data: a line is a number, a plan and a place, and a call is refused by the first of its lines
--- that holds. What each case of an answer means in these numbers.
+-- The manual's table as data (docs/MANUAL.md, "Refusals"): a line is a number, a plan and a place, and a call is
+-- refused by the first of its lines that holds. What each case of an answer means in these numbers.
 use Prim.Native.Nat.{ℕ, zero, suc}
 use mathlib.Core.Path.{_≡_}
 use mathlib.Core.Bool.{Bool, true, false}

@@ -1,4 +1,4 @@
--- For the reader, and cited by no other file: catalogues of a few bytes and the line of document 01's table that
+-- For the reader, and cited by no other file: catalogues of a few bytes and the line of the manual's table that
 -- refuses each, computed from the definitions.
 use Prim.Native.Nat.{ℕ}
 use mathlib.Core.Path.{_≡_, refl}
@@ -57,7 +57,7 @@ size-first : lineFor (25 ∷ 0 ∷ []) ≡ some (line 1 0 0)
 unfolding firstOf
 size-first = refl
 
--- document 01's catalogue K
+-- the manual's catalogue K
 K-passes : lineFor K ≡ none
 unfolding firstOf ends follow stands
 K-passes = refl

@@ -1,4 +1,4 @@
--- Conflicts are what document 01 says, for all catalogues together, and the table of a catalogue tells them.
+-- Conflicts are what the manual says, for all catalogues together, and the table of a catalogue tells them.
 use Prim.Native.Nat.{ℕ, zero, suc, _+_, _<_}
 use mathlib.Core.Path.{_≡_, refl, sym, _∙_, ap}
 use mathlib.Core.Bool.{Bool, true, false, _||_, true≢false}

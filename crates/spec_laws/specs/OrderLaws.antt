@@ -1,4 +1,4 @@
--- A smaller command has the smaller rank, so what is smaller by commands stands earlier in document 01's order.
+-- A smaller command has the smaller rank, so what is smaller by commands stands earlier in the manual's order.
 use Prim.Native.Nat.{ℕ, _+_, _*_, _/_, _<_, _≤_}
 use mathlib.Core.Path.{_≡_}
 use mathlib.Core.Bool.{true}

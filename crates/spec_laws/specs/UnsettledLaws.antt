@@ -1,4 +1,4 @@
--- Line 10 of document 01's table never holds: every part of a core is settled after N rounds. So no call is refused by
+-- Line 10 of the manual's table never holds: every part of a core is settled after N rounds. So no call is refused by
 -- it.
 use Prim.Native.Nat.{ℕ, _≤_}
 use mathlib.Core.Path.{_≡_, refl, sym, _∙_, ap}

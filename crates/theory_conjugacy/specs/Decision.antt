@@ -1,4 +1,4 @@
--- Whether two words are conjugate (document 01: joined), computed: their cores use the same commands, and for each part
+-- Whether two words are conjugate (the manual: joined), computed: their cores use the same commands, and for each part
 -- the rings have equal length and one is a rotation of the other.
 use Prim.Native.Nat.{ℕ}
 use mathlib.Core.Bool.{Bool, true, false, _&&_}

@@ -1,4 +1,4 @@
--- A word that conjugates one word to another where they are conjugate (document 01: a lead-in), computed: the letters
+-- A word that conjugates one word to another where they are conjugate (the manual: a lead-in), computed: the letters
 -- taken off the first to reach its core; for each part the letters that settling cycles, the letters before the place
 -- at which the rings agree, and the letters that settling cycles in the other word undone; and the letters taken off
 -- the second undone.

@@ -1,4 +1,4 @@
--- Conjugacy of words over an alphabet with undos and conflicts (document 01 calls conjugate words joined loops, and the
+-- Conjugacy of words over an alphabet with undos and conflicts (the manual calls conjugate words joined loops, and the
 -- conjugating word a lead-in). A definition file is short and computes; its laws stand in the file of the same name
 -- with Laws.
 pub mod Turn

@@ -113,7 +113,7 @@ module _ (Γ : Alphabet) (m : ℕ) where
 
   -- rings
 
-  -- document 01's ring: settled, and in normal form
+  -- the manual's ring: settled, and in normal form
   pub record Ring (r : Word Γ) : Type 0 where
     pub pyramid : Pyramid Γ m r
     pub ordered : Ordered Γ r

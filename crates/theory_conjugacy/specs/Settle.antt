@@ -1,5 +1,5 @@
 -- Settling a word on an apex, its largest command: the word is split as p0 then p1, where p1 is every letter that is
--- an apex letter or must stay after one, and while p0 is not empty the word is replaced by p1 then p0. Document 01
+-- an apex letter or must stay after one, and while p0 is not empty the word is replaced by p1 then p0. The manual
 -- calls the settled word in normal form a ring; a settled word is a pyramid with its apex first.
 use Prim.Native.Nat.{ℕ, zero, suc}
 use mathlib.Core.Path.{_≡_}

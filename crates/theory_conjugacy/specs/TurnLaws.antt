@@ -89,7 +89,7 @@ module _ (Γ : Alphabet) where
   both-turns turn (r, t) = (reduced-turn r t, tight-turn r t)
   both-turns (also s u) k = both-turns u (both-turns s k)
 
-  -- document 01's test is enough
+  -- the manual's test is enough
   pub tight-round : (x : Word Γ) → Reduced Γ x → Tight Γ x → Round Γ x
   tight-round x r t y s = both-turns s (r, t) .0
 
