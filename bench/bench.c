@@ -1,4 +1,4 @@
-/* Measures the four calls of the library beside beads.c and beside the plain solver of tests/solver.c, in one run. The
+/* Measures four calls of the library beside beads.c and beside the plain solver of tests/solver.c, in one run. The
  * measure is processor time; with an argument it is instructions, and the program is to be run as run.sh runs it, under
  * callgrind with dumps in files whose names begin with the argument. Before a call is measured the answers of all three
  * are compared. */
@@ -13,6 +13,8 @@
 
 enum { SIZES = 3, BATCHES = 9 };
 static const size_t long_plans[SIZES] = {64, 256, 1024}, short_plans[SIZES] = {0, 4, 16};
+static const enum call measured[] = {NORMAL_FORM, EQUAL, LOOPS, LEAD_IN_CHECK};
+enum { MEASURED = sizeof measured / sizeof measured[0] };
 static const char *dumps; /* how the names of callgrind's dumps begin, or null to measure time */
 
 /* The plans of one family in one size: v; one equal to v; one joined to v; a lead-in from v to it. */
@@ -135,7 +137,7 @@ static const char legend[] =
     "  cancel    random letters, then their undo, around four letters that stay\n"
     "  settle    a run of each of 24 commands upwards, for 23 rounds, and downwards, on a path\n"
     "  ring      eight letters over and over, all commands conflict\n"
-    "  odd ring  one letter over and over but for one place, where the rotation search of document 01 is quadratic\n";
+    "  odd ring  one letter over and over but for one place, where the library's rotation search is quadratic\n";
 
 static struct question question_of(const struct subject *s, enum call call) {
     const struct bytes *second = call == EQUAL ? &s->equal : &s->joined;
@@ -160,7 +162,7 @@ static void prepare(struct subject *s, const struct family *f, size_t size) {
 
 enum { LIBRARY, BEADS, SOLVER, ENGINES };
 typedef int64_t ask(const struct question *q, const struct area *area);
-static int64_t ask_beads(const struct question *q, const struct area *area) { return ASK(beads, q, area); }
+static int64_t ask_beads(const struct question *q, const struct area *area) { return ASK_MEASURED(beads, q, area); }
 static ask *const engine[ENGINES] = {ask_library, ask_beads, ask_solver};
 static const char *const engine_name[ENGINES] = {"library", "beads", "solver"};
 
@@ -326,10 +328,12 @@ static void print_call(const struct subject (*subject)[SIZES], enum call call) {
 
 static void print_medians(void) {
     puts("\nMedian ratio   64 to 1,024 letters:  beads  plain   0 to 16 letters:  beads  plain");
-    for (unsigned call = 0; call < CALLS; call++)
+    for (unsigned i = 0; i < MEASURED; i++) {
+        enum call call = measured[i];
         printf("  %-13s%27.2f %6.2f%25.2f %6.2f\n", call_name[call], median(&ratios_long[call][BEADS]),
                median(&ratios_long[call][SOLVER]), median(&ratios_short[call][BEADS]),
                median(&ratios_short[call][SOLVER]));
+    }
 }
 
 int main(int count, char **argument) {
@@ -341,7 +345,7 @@ int main(int count, char **argument) {
     printf("Growth: 1,024 letters as a multiple of 64, for the library and for each of the two.\n%s", legend);
     for (unsigned f = 0; f < FAMILIES; f++)
         for (unsigned i = 0; i < SIZES; i++) prepare(&subject[f][i], &family[f], family[f].sizes[i]);
-    for (unsigned call = 0; call < CALLS; call++) print_call(subject, (enum call)call);
+    for (unsigned i = 0; i < MEASURED; i++) print_call(subject, measured[i]);
     print_medians();
     return 0;
 }

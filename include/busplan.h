@@ -1,4 +1,4 @@
-/* busplan: comparing bus plans. C interface of the proved library libbusplan.a.
+/* busplan: comparing bus plans. C interface of the proved library libbusplan.a; docs/MANUAL.md is its manual.
  *
  * A catalogue says which commands conflict:
  *   byte 0        N, the number of commands, 0 to 24
@@ -6,7 +6,8 @@
  *   N bytes       the head index of command 1 to N
  *   R records     two bytes each: a command, and the index of the next record
  * Records are numbered from 1; index 0 ends a chain. Commands a and b conflict if b stands in the chain of a or a in
- * the chain of b. The whole is exactly 2 + N + 2R bytes.
+ * the chain of b. The whole is exactly 2 + N + 2R bytes. Chains may share their tails, and must where there are more
+ * pairs than records: 24 commands that all conflict are 276 pairs, more than the 255 records that R can count.
  *
  * A plan is a string of bytes: k, 1 to N, does command k; 128 + k undoes it; 0 is a filler with no effect. A plan has
  * at most BUSPLAN_MAX_PLAN bytes, a lead-in handed in for checking at most BUSPLAN_MAX_LEAD_IN.
@@ -17,7 +18,8 @@
  * their contents, and a refused call changes no byte of any area.
  *
  * Each byte string is a pointer and a length. An empty string may be a null pointer with length 0.
- * A call needs up to BUSPLAN_STACK bytes of stack.
+ *
+ * Platform: Linux on x86-64. The archive needs nothing but the C library's memory functions.
  */
 #ifndef BUSPLAN_H
 #define BUSPLAN_H
@@ -29,13 +31,35 @@
 extern "C" {
 #endif
 
+#define BUSPLAN_VERSION "1.0.0"
+
 #define BUSPLAN_MAX_COMMANDS 24
 #define BUSPLAN_MAX_PLAN 1024
 #define BUSPLAN_MAX_LEAD_IN 49152
-#define BUSPLAN_STACK 400000
+#define BUSPLAN_MAX_CATALOGUE 536 /* 2 + 24 + 2 * 255 */
 
-/* Why a call is refused: the first of these that holds, in this order. A call returns minus the number; the plan and
- * the place at fault are for callers in Rattle alone. */
+/* The room that each area must have at least, in bytes, from N and the byte counts of the plans, and the most that any
+ * call asks for: an area of that size is never refused. */
+#define BUSPLAN_FORM_ROOM(plan_size) ((size_t)(plan_size))
+#define BUSPLAN_LOOPS_ROOM(commands, v_size, w_size) ((size_t)(commands) * ((size_t)(v_size) + (size_t)(w_size)))
+#define BUSPLAN_CHECK_ROOM0(v_size, u_size) ((size_t)(v_size) + (size_t)(u_size))
+#define BUSPLAN_CHECK_ROOM1(u_size, w_size) ((size_t)(u_size) + (size_t)(w_size))
+#define BUSPLAN_MAX_FORM_ROOM 1024   /* BUSPLAN_MAX_PLAN */
+#define BUSPLAN_MAX_LOOPS_ROOM 49152 /* 24 * (1024 + 1024) */
+#define BUSPLAN_MAX_CHECK_ROOM 50176 /* 1024 + 49152, for either area */
+
+/* The stack that each call needs at the most, in bytes. These are measured (docs/MEASUREMENTS.md) and rounded up, not
+ * proved. */
+#define BUSPLAN_NORMAL_FORM_STACK 32000
+#define BUSPLAN_CORE_STACK 32000
+#define BUSPLAN_EQUAL_STACK 32000
+#define BUSPLAN_LOOPS_STACK 300000
+#define BUSPLAN_LEAD_IN_CHECK_STACK 300000
+#define BUSPLAN_FAULT_STACK 8000
+#define BUSPLAN_STACK 300000 /* any of them */
+
+/* Why a call is refused: the first of these that holds, in this order. A call returns minus the number; busplan_fault
+ * tells the plan and the place. */
 enum busplan_refusal {
     BUSPLAN_CATALOGUE_SIZE = 1, /* catalogue under 2 bytes, or not 2 + N + 2R */
     BUSPLAN_COMMAND_COUNT = 2,  /* N above 24 */
@@ -46,15 +70,41 @@ enum busplan_refusal {
     BUSPLAN_PLAN_SIZE = 7,      /* a plan over 1,024 bytes (a lead-in over 49,152) */
     BUSPLAN_PLAN_BYTE = 8,      /* a byte that is not 0, 1 to N or 129 to 128 + N */
     BUSPLAN_AREA_SIZE = 9,      /* an area smaller than the call asks for */
-    BUSPLAN_UNSETTLED = 10,     /* a part of a core is unsettled after N rounds */
-    BUSPLAN_FRAMING = 11        /* the program's input is badly framed; no call returns it */
+    BUSPLAN_UNSETTLED = 10,     /* a part of a core is unsettled after N rounds; proved never to be returned */
+    BUSPLAN_FRAMING = 11        /* the input of the program loops is badly framed; no call returns it */
 };
 
+/* What a call's answer says if it is a refusal, in English, without the plan and the place. */
+static inline const char *busplan_refusal_text(int64_t answer) {
+    switch (answer) {
+    case -BUSPLAN_CATALOGUE_SIZE: return "the catalogue is not 2 + N + 2R bytes long";
+    case -BUSPLAN_COMMAND_COUNT: return "the catalogue has more than 24 commands";
+    case -BUSPLAN_INDEX: return "the catalogue has a head or next index above R";
+    case -BUSPLAN_RECORD_COMMAND: return "the catalogue has a record whose command is 0 or above N";
+    case -BUSPLAN_ENDLESS_CHAIN: return "the catalogue has a command whose chain doesn't end";
+    case -BUSPLAN_OWN_CHAIN: return "the catalogue has a command that stands in its own chain";
+    case -BUSPLAN_PLAN_SIZE: return "a plan is over 1,024 bytes, or a lead-in over 49,152";
+    case -BUSPLAN_PLAN_BYTE: return "a plan has a byte that is no command, no undo and no filler";
+    case -BUSPLAN_AREA_SIZE: return "an area is smaller than the call asks for";
+    case -BUSPLAN_UNSETTLED: return "a part of a core is unsettled after N rounds";
+    case -BUSPLAN_FRAMING: return "the input is badly framed";
+    default: return answer < 0 ? "no refusal of this library" : "not refused";
+    }
+}
+
 /* The normal form of a plan: the shortest plan of the same effect and, of those, the first in the order 1, -1, 2, -2
- * and so on. area: at least plan_size bytes. Returns the length of the normal form, which stands at the start of it. */
+ * and so on. area: at least BUSPLAN_FORM_ROOM(plan_size) bytes. Returns the length of the normal form, which stands at
+ * the start of it. */
 int64_t busplan_normal_form(const uint8_t *catalogue, size_t catalogue_size,
                             const uint8_t *plan, size_t plan_size,
                             uint8_t *area, size_t area_size);
+
+/* The core of a plan, in normal form: what is left when a command that can come first and its undo that can come last
+ * are taken off, until there is no such pair. area: at least BUSPLAN_FORM_ROOM(plan_size) bytes. Returns the length of
+ * the core, which stands at the start of it. */
+int64_t busplan_core(const uint8_t *catalogue, size_t catalogue_size,
+                     const uint8_t *plan, size_t plan_size,
+                     uint8_t *area, size_t area_size);
 
 /* Whether two plans have the same effect. Returns 1 for yes, 0 for no. */
 int64_t busplan_equal(const uint8_t *catalogue, size_t catalogue_size,
@@ -62,23 +112,35 @@ int64_t busplan_equal(const uint8_t *catalogue, size_t catalogue_size,
                       const uint8_t *w, size_t w_size);
 
 /* Whether two loops are joined: whether some lead-in u, of any length, makes (undo of u, v, u) equal to w.
- * area: at least N * (v_size + w_size) bytes. Returns 0 for apart, and writes nothing; for joined the length of such a
- * lead-in plus 1, and the lead-in, in normal form, stands at the start of area. */
+ * area: at least BUSPLAN_LOOPS_ROOM(N, v_size, w_size) bytes. Returns 0 for apart, and writes nothing; for joined the
+ * length of such a lead-in plus 1, and the lead-in, in normal form, stands at the start of area. */
 int64_t busplan_loops(const uint8_t *catalogue, size_t catalogue_size,
                       const uint8_t *v, size_t v_size,
                       const uint8_t *w, size_t w_size,
                       uint8_t *area, size_t area_size);
 
-/* Whether u is a lead-in from v to w. area0: at least v_size + u_size bytes; area1: at least u_size + w_size bytes.
- * Afterwards, for yes and for no, they begin with the normal forms of v followed by u, and of u followed by w. Their
- * lengths are not returned; no normal form holds a 0, so in an area filled with 0 beforehand the first 0 ends it.
- * Returns 1 for yes (the two are the same), 0 for no. */
+/* Whether u is a lead-in from v to w. area0: at least BUSPLAN_CHECK_ROOM0(v_size, u_size) bytes; area1: at least
+ * BUSPLAN_CHECK_ROOM1(u_size, w_size) bytes. Afterwards, for yes and for no, they begin with the normal forms of v
+ * followed by u, and of u followed by w. Their lengths are not returned; no normal form holds a 0, so in an area filled
+ * with 0 beforehand the first 0 ends it. Returns 1 for yes (the two are the same), 0 for no. */
 int64_t busplan_lead_in_check(const uint8_t *catalogue, size_t catalogue_size,
                               const uint8_t *v, size_t v_size,
                               const uint8_t *w, size_t w_size,
                               const uint8_t *u, size_t u_size,
                               uint8_t *area0, size_t area0_size,
                               uint8_t *area1, size_t area1_size);
+
+/* What is wrong with a catalogue and up to three plans, empty where a call has fewer: the first of refusals 1 to 8 that
+ * holds, as minus its number, and then fault[0] is the plan (1, 2 or 3 in the order given, 0 for the catalogue) and
+ * fault[1] the place in it, counted from 0. Returns 0 if none holds, and fault keeps its contents. v and w may have
+ * BUSPLAN_MAX_PLAN bytes, u BUSPLAN_MAX_LEAD_IN. fault must point to two numbers.
+ * A call with the same catalogue and plans is refused for just this, and where 0 is returned it is refused for an area
+ * alone (9), if at all: so this tells the place of any refusal from 1 to 8. */
+int64_t busplan_fault(const uint8_t *catalogue, size_t catalogue_size,
+                      const uint8_t *v, size_t v_size,
+                      const uint8_t *w, size_t w_size,
+                      const uint8_t *u, size_t u_size,
+                      uint64_t fault[2]);
 
 #ifdef __cplusplus
 }

@@ -41,8 +41,16 @@ static void unpack(uint64_t packed, struct word *w) {
     }
 }
 
+/* Finds what is left of w without its first and its last letter, or w turned by one letter. */
+static void step_at_the_ends(const struct word *w, uint64_t packed, enum ends ends) {
+    unsigned top = (unsigned)(8 * (w->size - 1));
+    uint64_t behind = packed & (((uint64_t)1 << top) - 1);
+    if (ends == TURNED) find(behind << 8 | packed >> top);
+    if (ends == PAIRS_OFF && w->letter[0] == undo_of(w->letter[w->size - 1])) find(behind >> 8);
+}
+
 /* Finds every word that one step makes of w. */
-static void step(const struct conflicts *k, struct word *w, bool turning) {
+static void step(const struct conflicts *k, struct word *w, enum ends ends) {
     uint64_t packed = pack(w);
     for (size_t i = 0; i + 1 < w->size; i++) {
         unsigned low = (unsigned)(8 * (w->size - 2 - i));
@@ -53,13 +61,10 @@ static void step(const struct conflicts *k, struct word *w, bool turning) {
         if (!conflict(k, w->letter[i], w->letter[i + 1]))
             find(rest | (y << 8 | x) << low);
     }
-    if (turning && w->size > 1) {
-        unsigned top = (unsigned)(8 * (w->size - 1));
-        find((packed & (((uint64_t)1 << top) - 1)) << 8 | packed >> top);
-    }
+    if (w->size > 1) step_at_the_ends(w, packed, ends);
 }
 
-void brute_least(const struct conflicts *k, struct word *w, bool turning) {
+void brute_least(const struct conflicts *k, struct word *w, enum ends ends) {
     for (size_t i = 0; i < SLOTS; i++) slot[i] = 0;
     count = 0;
     find(pack(w));
@@ -67,7 +72,7 @@ void brute_least(const struct conflicts *k, struct word *w, bool turning) {
     for (size_t i = 0; i < count; i++) {
         if (found[i] < least) least = found[i];
         unpack(found[i], w);
-        step(k, w, turning);
+        step(k, w, ends);
     }
     unpack(least, w);
 }

@@ -1,5 +1,6 @@
-/* The bench cases of document 01, its edges and its slips, as a table with the answers that it gives. Every row is put
- * to the library and to the solver, once with empty slices as null pointers and once not. */
+/* The manual's cases, its edges, its slips and its table of refusals, as rows with the answers that it gives. Every row
+ * is put to the library and to the solver, once with empty slices as null pointers and once not. Then what busplan.h
+ * says of the room for areas and of the refusals' texts. */
 #include "calls.h"
 #include "guarded.h"
 
@@ -25,27 +26,34 @@ struct row {
 
 #define U(k) (128 + (k))
 #define P(...) {(const uint8_t[]){__VA_ARGS__}, sizeof (const uint8_t[]){__VA_ARGS__}}
+#define PAIR(a, b) {(const uint8_t *)(const uint64_t[2]){a, b}, 2 * sizeof(uint64_t)}
 #define NONE {NULL, 0}
 #define NORMAL(name, catalogue, plan, area, answer, written) \
     {name, NORMAL_FORM, catalogue, {plan, NONE, NONE}, {area, EXACT}, answer, {written, NONE}}
 #define REFUSED(name, catalogue, plan, area, refusal) \
     {name, NORMAL_FORM, catalogue, {plan, NONE, NONE}, {area, EXACT}, -(refusal), {NONE, NONE}}
+#define CORE_OF(name, catalogue, plan, area, answer, written) \
+    {name, CORE, catalogue, {plan, NONE, NONE}, {area, EXACT}, answer, {written, NONE}}
 #define SAME(name, catalogue, v, w, answer) \
     {name, EQUAL, catalogue, {v, w, NONE}, {EXACT, EXACT}, answer, {NONE, NONE}}
 #define LOOP(name, catalogue, v, w, area, answer) \
     {name, LOOPS, catalogue, {v, w, NONE}, {area, EXACT}, answer, {NONE, NONE}}
 #define LEAD(name, catalogue, v, w, u, area0, area1, answer, vu, uw) \
     {name, LEAD_IN_CHECK, catalogue, {v, w, u}, {area0, area1}, answer, {vu, uw}}
+#define FAULTY(name, catalogue, v, w, u, refusal, plan, place) \
+    {name, FAULT, catalogue, {v, w, u}, {EXACT, EXACT}, -(refusal), {PAIR(plan, place), NONE}}
+#define FAULTLESS(name, catalogue, v, w, u) \
+    {name, FAULT, catalogue, {v, w, u}, {EXACT, EXACT}, 0, {NONE, NONE}}
 
 /* Conflicts 1-2, 2-3, 3-4. */
 #define K P(4, 3, 1, 2, 3, 0, 2, 0, 3, 0, 4, 0)
 #define NO_COMMANDS P(0, 0)
 
 /* Filled by fill_long: plans of fillers, plans of the letter 1, catalogues of 24 and 25 commands without conflicts, a
- * catalogue of two commands whose first chain goes through 255 records, and rings of 130 letters: 2 but for one 1, at the
- * end or in the middle, or one -1 at the end. */
+ * catalogue of two commands whose first chain goes through 255 records, rings of 130 letters: 2 but for one 1, at the
+ * end or in the middle, or one -1 at the end; and 1,023 fillers with a 1 at the end. */
 static uint8_t fillers[MOST_LEAD_IN + 1], ones[MOST_LEAD_IN + 1], twenty_four[26], twenty_five[27], long_chain[514];
-static uint8_t one_late[130], one_amid[130], undo_late[130];
+static uint8_t one_late[130], one_amid[130], undo_late[130], late_one[MOST_PLAN];
 #define FILLERS(n) {fillers, n}
 #define ONES(n) {ones, n}
 #define TWENTY_FOUR {twenty_four, sizeof twenty_four}
@@ -54,6 +62,7 @@ static uint8_t one_late[130], one_amid[130], undo_late[130];
 #define ONE_LATE {one_late, sizeof one_late}
 #define ONE_AMID {one_amid, sizeof one_amid}
 #define UNDO_LATE {undo_late, sizeof undo_late}
+#define LATE_ONE {late_one, sizeof late_one}
 
 static void fill_long(void) {
     memset(ones, 1, sizeof ones);
@@ -63,6 +72,7 @@ static void fill_long(void) {
     one_late[129] = 1;
     one_amid[64] = 1;
     undo_late[129] = U(1);
+    late_one[MOST_PLAN - 1] = 1;
     twenty_four[0] = 24;
     twenty_five[0] = 25;
     long_chain[0] = 2;
@@ -80,7 +90,8 @@ static const struct row rows[] = {
     NORMAL("case 2", K, P(1, U(1)), EXACT, 0, NONE),
     NORMAL("case 3", K, P(1, 3, U(1)), EXACT, 1, P(3)),
     NORMAL("case 4", K, P(1, 2, U(1)), EXACT, 3, P(1, 2, U(1))),
-    LOOP("case 4: the core", K, P(1, 2, U(1)), P(2), EXACT, JOINED),
+    CORE_OF("case 4: the core", K, P(1, 2, U(1)), EXACT, 1, P(2)),
+    LOOP("case 4 and its core", K, P(1, 2, U(1)), P(2), EXACT, JOINED),
     NORMAL("case 5", K, P(3, 1), EXACT, 2, P(1, 3)),
     NORMAL("case 6", K, P(4, 2, 1), EXACT, 3, P(2, 1, 4)),
     NORMAL("case 7", K, P(2, 4, 3, 1, U(3)), EXACT, 3, P(2, 1, 4)),
@@ -89,6 +100,7 @@ static const struct row rows[] = {
     NORMAL("case 8: room for 3", K, P(0, 1, 0), 3, 1, P(1)),
     LOOP("case 9", K, P(1, 2), P(2, 1), EXACT, JOINED),
     LEAD("case 9: lead-in 1", K, P(1, 2), P(2, 1), P(1), EXACT, EXACT, 1, P(1, 2, 1), P(1, 2, 1)),
+    LEAD("case 9: 2 is no lead-in", K, P(1, 2), P(2, 1), P(2), EXACT, EXACT, 0, P(1, 2, 2), P(2, 2, 1)),
     LEAD("case 9: lead-in -2", K, P(1, 2), P(2, 1), P(U(2)), EXACT, EXACT, 1, P(1), P(1)),
     LOOP("case 10", K, P(1), P(U(1)), EXACT, 0),
     LOOP("case 11", K, P(1, 2, 1, U(2)), P(1, 1), EXACT, 0),
@@ -153,6 +165,67 @@ static const struct row rows[] = {
     NORMAL("a pair named by the larger command", P(2, 1, 0, 1, 1, 0), P(2, 1), EXACT, 2, P(2, 1)),
     NORMAL("a chain of 255 records", LONG_CHAIN, P(2, 1), EXACT, 2, P(2, 1)),
 
+    /* Cores */
+    CORE_OF("the core of an empty plan", K, NONE, EXACT, 0, NONE),
+    CORE_OF("the core of a plan without effect", K, P(1, 2, U(2), U(1)), EXACT, 0, NONE),
+    CORE_OF("the core of fillers", NO_COMMANDS, FILLERS(1024), EXACT, 0, NONE),
+    CORE_OF("a core in normal form", K, P(4, 2, 1), EXACT, 3, P(2, 1, 4)),
+    CORE_OF("a core is not turned", K, P(2, 1), EXACT, 2, P(2, 1)),
+    CORE_OF("a pair off before it is shortest would leave 1, 2", K, P(U(1), 1, 2, 1), EXACT, 2, P(2, 1)),
+    CORE_OF("pairs off one behind the other", K, P(1, 2, 3, U(2), U(1)), EXACT, 1, P(3)),
+    CORE_OF("two letters alike are no pair", K, P(1, 2, 1), EXACT, 3, P(1, 2, 1)),
+    CORE_OF("one letter is no pair", K, P(1, 3), EXACT, 2, P(1, 3)),
+    CORE_OF("a pair with a letter on either side that does not conflict", K, P(4, 1, 2, U(1), 4), EXACT, 3, P(2, 4, 4)),
+    CORE_OF("1,024 letters that are a core", K, ONES(1024), EXACT, 1024, ONES(1024)),
+    CORE_OF("a core with room to spare", K, P(1, 2, U(1)), 40, 1, P(2)),
+    CORE_OF("a core with room for it alone", K, P(1, 2, U(1)), 1, -9, NONE),
+    CORE_OF("a core in an area of one byte less", K, P(0, 1), ONE_LESS, -9, NONE),
+    CORE_OF("the core of 1,025 letters", K, ONES(1025), EXACT, -7, NONE),
+    CORE_OF("the core of a byte 5", K, P(1, 5), EXACT, -8, NONE),
+    CORE_OF("the core under a catalogue of one byte", P(0), P(1), EXACT, -1, NONE),
+
+    /* Faults of catalogues */
+    FAULTY("no catalogue", NONE, NONE, NONE, NONE, 1, 0, 0),
+    FAULTY("a catalogue of one byte", P(24), NONE, NONE, NONE, 1, 0, 0),
+    FAULTY("a byte more", P(0, 0, 0), NONE, NONE, NONE, 1, 0, 0),
+    FAULTY("25 commands in a wrong size", P(25, 0), ONES(1025), P(5), P(5), 1, 0, 0),
+    FAULTY("25 commands in the right size", TWENTY_FIVE, NONE, NONE, NONE, 2, 0, 0),
+    FAULTY("a head without records", P(1, 0, 1), NONE, NONE, NONE, 3, 0, 2),
+    FAULTY("the second head", P(3, 1, 1, 2, 3, 2, 2), NONE, NONE, NONE, 3, 0, 3),
+    FAULTY("a next index before a command", P(2, 1, 0, 0, 0, 2), NONE, NONE, NONE, 3, 0, 5),
+    FAULTY("the next index of record 2", P(2, 2, 1, 0, 2, 0, 0, 3), NONE, NONE, NONE, 3, 0, 7),
+    FAULTY("a record of command 0", P(2, 1, 1, 0, 0, 0), NONE, NONE, NONE, 4, 0, 4),
+    FAULTY("an unreached record of command N + 1", P(2, 1, 0, 0, 3, 0), NONE, NONE, NONE, 4, 0, 4),
+    FAULTY("record 2 of command N + 1", P(2, 2, 1, 0, 2, 0, 3, 0), NONE, NONE, NONE, 4, 0, 6),
+    FAULTY("a record with no commands", P(0, 1, 1, 0), NONE, NONE, NONE, 4, 0, 2),
+    FAULTY("a record whose next is itself", P(2, 1, 0, 1, 1, 1), NONE, NONE, NONE, 5, 0, 3),
+    FAULTY("5 of command 2 before 6 of command 1", P(2, 2, 1, 2, 1, 0, 1, 2), NONE, NONE, NONE, 5, 0, 3),
+    FAULTY("two chains that don't end", P(2, 1, 1, 1, 1, 1), NONE, NONE, NONE, 5, 0, 2),
+    FAULTY("a command in its own chain", P(2, 1, 1, 0, 1, 0), NONE, NONE, NONE, 6, 0, 2),
+    FAULTY("command 2 in its own chain", P(2, 1, 0, 1, 2, 0), NONE, NONE, NONE, 6, 0, 3),
+    FAULTY("command 2 at the end of its own chain", P(2, 2, 0, 1, 1, 2, 2, 0), P(5), NONE, NONE, 6, 0, 3),
+
+    /* Faults of plans */
+    FAULTY("a byte of plan 1", K, P(5), NONE, NONE, 8, 1, 0),
+    FAULTY("byte 128 of plan 1", K, P(1, 128), NONE, NONE, 8, 1, 1),
+    FAULTY("the size of plan 1", K, ONES(1025), P(5), P(5), 7, 1, 0),
+    FAULTY("plan 1's 8 before plan 2's 7", K, P(1, 0, 5), ONES(1025), NONE, 8, 1, 2),
+    FAULTY("the size of plan 1 before its bytes", NO_COMMANDS, ONES(1025), NONE, NONE, 7, 1, 0),
+    FAULTY("the last byte of 1,024", NO_COMMANDS, LATE_ONE, NONE, NONE, 8, 1, 1023),
+    FAULTY("the size of plan 2", K, ONES(1024), ONES(1025), P(5), 7, 2, 0),
+    FAULTY("a byte of plan 2", K, NONE, P(1, 5), NONE, 8, 2, 1),
+    FAULTY("the first of two bytes of plan 2", K, P(1), P(4, 128, 133), ONES(49153), 8, 2, 1),
+    FAULTY("49,153 bytes of plan 3", K, NONE, NONE, ONES(49153), 7, 3, 0),
+    FAULTY("a byte of plan 3", K, P(1), P(2), P(132, 133), 8, 3, 1),
+    FAULTY("a byte of plan 3 alone", NO_COMMANDS, NONE, NONE, P(0, 0, 0, 129), 8, 3, 3),
+    FAULTLESS("no commands and no plans", NO_COMMANDS, NONE, NONE, NONE),
+    FAULTLESS("1,025 bytes of plan 3", K, P(4, 132), FILLERS(1024), ONES(1025)),
+    FAULTLESS("49,152 bytes of plan 3", K, ONES(1024), ONES(1024), ONES(49152)),
+    FAULTLESS("an unreached record whose next is itself", P(2, 1, 0, 0, 1, 1), P(2), P(129), P(130)),
+    FAULTLESS("chains that share a tail", P(3, 2, 1, 2, 0, 2, 2, 3, 0), NONE, NONE, P(3)),
+    FAULTLESS("24 commands", TWENTY_FOUR, P(24), P(152), P(24)),
+    FAULTLESS("a chain of 255 records", LONG_CHAIN, P(1), P(2), NONE),
+
     /* The order of the table over several plans */
     SAME("a byte of plan 1 before the size of plan 2", K, P(5), ONES(1025), -8),
     SAME("the size of plan 1 before a byte of plan 2", K, ONES(1025), P(5), -7),
@@ -166,6 +239,7 @@ static const struct row rows[] = {
     LEAD("49,153 bytes of lead-in", K, NONE, NONE, ONES(49153), EXACT, EXACT, -7, NONE, NONE),
     LEAD("a byte of plan 2 before the lead-in", K, NONE, P(5), ONES(49153), EXACT, EXACT, -8, NONE, NONE),
     LEAD("a byte of the lead-in before the areas", K, P(1), P(1), P(5), 0, 0, -8, NONE, NONE),
+    LEAD("both areas too small", K, P(1), P(1), P(2), 1, 1, -9, NONE, NONE),
     LEAD("area 0 of one byte less", K, P(1), P(1), P(2), ONE_LESS, EXACT, -9, NONE, NONE),
     LEAD("area 1 of one byte less", K, P(1), P(1), P(2), EXACT, ONE_LESS, -9, NONE, NONE),
     LEAD("no lead-in", K, P(1), P(2), P(3), EXACT, EXACT, 0, P(1, 3), P(3, 2)),
@@ -176,7 +250,8 @@ static const struct row rows[] = {
     SAME("slip 2: to read chains as independent pairs", K, P(2, 1), P(1, 2), 0),
     SAME("slip 2: and the others as conflicts", K, P(3, 1), P(1, 3), 1),
     NORMAL("slip 3: end letters", K, P(3, 1, 2, U(3), U(1)), EXACT, 5, P(1, 3, 2, U(1), U(3))),
-    LOOP("slip 3: the core is 2", K, P(3, 1, 2, U(3), U(1)), P(2), EXACT, JOINED),
+    CORE_OF("slip 3: the core is 2", K, P(3, 1, 2, U(3), U(1)), EXACT, 1, P(2)),
+    LOOP("slip 3: joined to its core", K, P(3, 1, 2, U(3), U(1)), P(2), EXACT, JOINED),
     LOOP("slip 3: only the written first letter", K, P(1, 3, 2, U(3)), P(1, 2), EXACT, JOINED),
     LOOP("slip 3: only the written last letter", K, P(1, 2, U(1), 3), P(2, 3), EXACT, JOINED),
     LOOP("slip 4: cores that differ", K, P(1, 2, 3), P(3, 1, 2), EXACT, JOINED),
@@ -234,6 +309,7 @@ static void run(const struct row *row, bool library, bool nulls) {
         area[i] = (struct area){size == 0 && nulls ? NULL : lent[i].at, size};
     }
     int64_t answer = library ? ask_library(&q, area) : ask_solver(&q, area);
+    if (library && !fault_tells(&q, answer)) fail(row, who, "busplan_fault tells another refusal", answer);
     if (row->answer == JOINED) {
         check_lead_in(row, &q, who, answer);
         return;
@@ -244,13 +320,63 @@ static void run(const struct row *row, bool library, bool nulls) {
             fail(row, who, "other bytes in an area", answer);
 }
 
+/* A row that no line from 1 to 8 refuses is refused by 9 just where an area has a byte less than busplan.h says. */
+static void check_room(const struct row *row) {
+    struct question q = {row->call, row->catalogue, {row->plan[0], row->plan[1], row->plan[2]}};
+    struct area area[2];
+    if (row->answer < 0 && row->answer != -BUSPLAN_AREA_SIZE) return;
+    for (unsigned less = 0; less <= areas_of[row->call] && sizes_areas(row->call); less++) {
+        for (unsigned i = 0; i < 2; i++) {
+            guarded_noise(&lent[i], room(&q, i), true, 0);
+            area[i] = (struct area){lent[i].at, lent[i].size};
+        }
+        if (less > 0 && area[less - 1].size-- == 0) continue;
+        if ((ask_library(&q, area) == -BUSPLAN_AREA_SIZE) != (less > 0))
+            fail(row, "library", less > 0 ? "passed in a byte less" : "refused in the room that it needs", -9);
+    }
+}
+
+/* The largest room is what the largest plans ask for. */
+_Static_assert(BUSPLAN_MAX_CATALOGUE == 2 + BUSPLAN_MAX_COMMANDS + 2 * 255, "the largest catalogue");
+_Static_assert(BUSPLAN_MAX_FORM_ROOM == BUSPLAN_FORM_ROOM(BUSPLAN_MAX_PLAN), "the room for a form");
+_Static_assert(BUSPLAN_MAX_LOOPS_ROOM
+               == BUSPLAN_LOOPS_ROOM(BUSPLAN_MAX_COMMANDS, BUSPLAN_MAX_PLAN, BUSPLAN_MAX_PLAN), "the room for loops");
+_Static_assert(BUSPLAN_MAX_CHECK_ROOM == BUSPLAN_CHECK_ROOM0(BUSPLAN_MAX_PLAN, BUSPLAN_MAX_LEAD_IN), "area 0");
+_Static_assert(BUSPLAN_MAX_CHECK_ROOM == BUSPLAN_CHECK_ROOM1(BUSPLAN_MAX_LEAD_IN, BUSPLAN_MAX_PLAN), "area 1");
+
+/* What the text of an answer has in it, and no text of another number. */
+static const struct {
+    int64_t answer;
+    const char *word;
+} texts[] = {
+    {-1, "2 + N + 2R"}, {-2, "24 commands"}, {-3, "index"}, {-4, "record whose"}, {-5, "doesn't end"},
+    {-6, "its own chain"}, {-7, "1,024"}, {-8, "byte that"}, {-9, "area"}, {-10, "unsettled"}, {-11, "framed"},
+    {0, "not refused"}, {1, "not refused"}, {INT64_MAX, "not refused"},
+    {-12, "no refusal of this library"}, {INT64_MIN, "no refusal of this library"},
+};
+
+static void check_texts(void) {
+    size_t count = sizeof texts / sizeof texts[0];
+    for (size_t i = 0; i < count; i++) {
+        const char *text = busplan_refusal_text(texts[i].answer);
+        for (size_t j = 0; j < count; j++) {
+            if ((strstr(text, texts[j].word) != NULL) == (strcmp(texts[i].word, texts[j].word) == 0)) continue;
+            fprintf(stderr, "cases: the text of answer %" PRId64 " is \"%s\"\n", texts[i].answer, text);
+            exit(1);
+        }
+    }
+}
+
 int main(void) {
     size_t count = sizeof rows / sizeof rows[0];
     fill_long();
     guarded_open(&lent[0]);
     guarded_open(&lent[1]);
-    for (size_t i = 0; i < count; i++)
+    for (size_t i = 0; i < count; i++) {
         for (unsigned way = 0; way < 4; way++) run(&rows[i], way / 2 == 1, way % 2 == 1);
-    printf("cases: %zu rows, library and solver: all as document 01 says\n", count);
+        check_room(&rows[i]);
+    }
+    check_texts();
+    printf("cases: %zu rows, library and solver: all as the manual says; room and texts as busplan.h says\n", count);
     return 0;
 }

@@ -16,7 +16,7 @@ static uint64_t seed = 1, calls;
 /* The inputs as drawn, the guarded memory they are handed over in, and the areas: the library's and the solver's. */
 static struct bytes catalogue, plan[3];
 static struct guarded given[4], lent[2];
-static uint8_t expected_bytes[2][MOST_GUARDED];
+static _Alignas(uint64_t) uint8_t expected_bytes[2][MOST_GUARDED];
 static struct question question;
 
 /* How often each call gave each answer: 0, minus 1 to 10, or ABOVE for any answer above 0. */
@@ -74,9 +74,10 @@ static void give_all(void) {
     for (unsigned i = 0; i < 3; i++) question.plan[i] = give(&given[1 + i], &plan[i]);
 }
 
-/* Mostly as many bytes as are needed, or more; else one less, or far less. */
-static size_t area_size(size_t needed) {
+/* Mostly as many bytes as are needed, or more; else one less, or far less. Always as many where no size is told. */
+static size_t area_size(enum call call, size_t needed) {
     size_t which = below(100), size = needed;
+    if (!sizes_areas(call)) return needed;
     if (which < 30) size = needed + 1 + below(40);
     if (which >= 90 && needed > 0) size = which < 98 ? needed - 1 : below(needed);
     return size < 60000 ? size : 60000;
@@ -108,7 +109,7 @@ static int64_t compare(enum call call) {
     struct conflicts k;
     question.call = call;
     for (unsigned i = 0; i < areas_of[call]; i++) {
-        guarded_noise(&lent[i], area_size(room(&question, i)), chance(50), below(1 << 15));
+        guarded_noise(&lent[i], area_size(call, room(&question, i)), chance(50), below(1 << 15));
         memcpy(expected_bytes[i], lent[i].at, lent[i].size);
         expected_area[i] = (struct area){expected_bytes[i], lent[i].size};
         area[i] = (struct area){lent[i].size == 0 && chance(50) ? NULL : lent[i].at, lent[i].size};
@@ -127,13 +128,16 @@ static int64_t compare(enum call call) {
     if (!guarded_holds(&given[0], catalogue.at, catalogue.size)) fail("the catalogue is changed");
     for (unsigned i = 0; i < plans_of[call]; i++)
         if (!guarded_holds(&given[1 + i], plan[i].at, plan[i].size)) fail("a plan is changed");
+    if (!fault_tells(&question, got)) fail("busplan_fault tells another refusal");
     return got;
 }
 
-/* ---- One round: a catalogue, two plans and a lead-in, and all four calls on them */
+/* ---- One round: a catalogue, two plans and a lead-in, and all calls on them */
 
+/* Plan 1 is often conjugated by letters, so that there is much to take off before its core is left. */
 static void draw_plans(const struct conflicts *k) {
     random_plan(k, &plan[0]);
+    if (chance(40)) joined_plan(k, &plan[0], &plan[0], &plan[2]);
     random_plan(k, &plan[2]);
     size_t which = below(100);
     if (which < 20) random_plan(k, &plan[1]);
@@ -151,6 +155,15 @@ static void damage(const struct conflicts *k) {
     if (chance(8)) damage_catalogue(&catalogue);
 }
 
+/* Damage upon damage, so that several lines hold and the first of them is to be told with its place. */
+static void damage_more(const struct conflicts *k) {
+    for (unsigned i = 0; i < 4; i++) {
+        damage(k);
+        give_all();
+        compare(FAULT);
+    }
+}
+
 /* Puts what the library wrote as a lead-in, or what the solver wrote, in the place of plan 3. */
 static void take_lead_in(int64_t answer) {
     struct area area[2] = {{expected_bytes[0], MOST_GUARDED}};
@@ -161,21 +174,33 @@ static void take_lead_in(int64_t answer) {
     question.plan[2] = give(&given[3], &plan[2]);
 }
 
-/* For short plans: the normal form and the verdict on loops by trying all steps. A damaged catalogue that is still
- * accepted may have other conflicts than before, so it is read again. */
+/* Whether the solver's answer to a call on one plan is this word. */
+static bool solver_writes(enum call call, struct slice on, const struct word *w) {
+    struct area area[2] = {{expected_bytes[0], MOST_GUARDED}};
+    struct question q = {call, question.catalogue, {on}};
+    return ask_solver(&q, area) == (int64_t)w->size && memcmp(expected_bytes[0], w->letter, w->size) == 0;
+}
+
+/* For short plans: normal forms, cores and the verdict on loops by trying all steps. A core is joined to its plan, and
+ * no loop that is joined to it is shorter. A damaged catalogue that is still accepted may have other conflicts than
+ * before, so it is read again. */
 static void ask_brute(void) {
     struct conflicts k;
-    struct word brute[2], normal[2];
+    struct word brute[2], core;
     struct area area[2] = {{expected_bytes[0], MOST_GUARDED}};
     solver_catalogue(catalogue.at, catalogue.size, &k);
     for (unsigned i = 0; i < 2; i++) {
         solver_word(plan[i].at, plan[i].size, &brute[i]);
-        solver_word(plan[i].at, plan[i].size, &normal[i]);
         if (brute[i].size > MOST_BRUTE) return;
-        solver_normal(&k, &normal[i]);
-        brute_least(&k, &brute[i], false);
-        if (!solver_same(&brute[i], &normal[i])) fail("the search finds another normal form");
-        brute_least(&k, &brute[i], true);
+        brute_least(&k, &brute[i], KEPT);
+        if (!solver_writes(NORMAL_FORM, question.plan[i], &brute[i])) fail("the search finds another normal form");
+        solver_word(brute[i].letter, brute[i].size, &core);
+        brute_least(&k, &core, PAIRS_OFF);
+        if (!solver_writes(CORE, question.plan[i], &core)) fail("the search finds another core");
+        brute_least(&k, &brute[i], TURNED);
+        if (core.size != brute[i].size) fail("the search finds a shorter loop than the core");
+        brute_least(&k, &core, TURNED);
+        if (!solver_same(&core, &brute[i])) fail("the search finds the core apart from its plan");
     }
     question.call = LOOPS;
     bool joined = ask_solver(&question, area) > 0;
@@ -184,15 +209,17 @@ static void ask_brute(void) {
 
 static void round_of_calls(void) {
     struct conflicts k;
-    bool settling = below(2000) == 0;
+    bool settling = below(2000) == 0, damaged = !settling && chance(25);
     if (settling) long_settling(&catalogue, &plan[0], &plan[1]);
     else random_catalogue(&catalogue);
     if (solver_catalogue(catalogue.at, catalogue.size, &k) != 0) fail("a catalogue that should be right is refused");
     if (!settling) draw_plans(&k);
-    if (!settling && chance(25)) damage(&k);
+    if (damaged) damage(&k);
     give_all();
     compare(NORMAL_FORM);
+    compare(CORE);
     compare(EQUAL);
+    compare(FAULT);
     compare(LEAD_IN_CHECK);
     int64_t answer = compare(LOOPS);
     if (answer > 0) {
@@ -200,11 +227,18 @@ static void round_of_calls(void) {
         if (compare(LEAD_IN_CHECK) == 0) fail("a lead-in of two joined loops does not pass the check");
     }
     if (answer >= 0 && chance(10)) ask_brute();
+    if (damaged) damage_more(&k);
 }
 
 /* ---- The whole */
 
-/* Every answer that document 01 lets a call give must have come up, but for refusal 10, which cannot. */
+/* Whether a call can give an answer: 0, minus 1 to 10, or ABOVE. Refusal 10 cannot come up. */
+static bool possible(enum call call, unsigned answer) {
+    if (answer == ABOVE) return call != FAULT;
+    return answer <= 8 || (answer == 9 && sizes_areas(call));
+}
+
+/* Every answer that a call can give must have come up, and no other. */
 static void print_answers(void) {
     printf("%-14s %8s %8s", "answer", "above 0", "0");
     for (int i = 1; i <= 9; i++) printf(" %8d", -i);
@@ -214,9 +248,9 @@ static void print_answers(void) {
         for (unsigned i = 1; i <= 9; i++) printf(" %8" PRIu64, answers[call][i]);
         putchar('\n');
         for (unsigned i = 0; i < ANSWERS; i++) {
-            bool expected = i != 10 && (i != 9 || areas_of[call] > 0);
-            if (expected && calls >= 100000 && answers[call][i] == 0) {
-                fprintf(stderr, "differential: %s never gave answer %u\n", call_name[call], i);
+            bool expected = possible((enum call)call, i);
+            if (calls >= 100000 && expected != (answers[call][i] > 0)) {
+                fprintf(stderr, "differential: %s gave answer %u %s\n", call_name[call], i, expected ? "never" : "too");
                 exit(1);
             }
         }
@@ -224,7 +258,7 @@ static void print_answers(void) {
 }
 
 int main(int count, char **argument) {
-    uint64_t wanted = 1200000;
+    uint64_t wanted = 2000000;
     if (count > 1) seed = strtoull(argument[1], NULL, 10);
     if (count > 2) wanted = strtoull(argument[2], NULL, 10);
     seed_random(seed);

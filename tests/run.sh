@@ -1,10 +1,10 @@
 #!/bin/sh
-# Compiles the C tests against the library's archive and runs them: the table of cases, the example console, calls from
-# several threads, and a million random calls beside a second solver.
+# Compiles the C tests against the library's archive and runs them: the table of cases, the example console, the stack
+# of each call, calls from several threads, and more than a million random calls beside a second solver.
 #
 #   tests/run.sh [LIBRARY]     LIBRARY: another archive or shared library with the calls of include/busplan.h
 #
-# SEED (default 1) and CALLS (default 1200000) set the random calls.
+# SEED (default 1) and CALLS (default 2000000) set the random calls.
 set -e
 . "$(dirname "$0")/library.sh"
 out=target/tests
@@ -16,6 +16,7 @@ compile() { # NAME SOURCE...
 }
 compile cases tests/cases.c tests/guarded.c tests/solver.c
 compile console examples/console.c
+compile stack tests/stack.c tests/supply.c tests/solver.c
 compile threads tests/threads.c tests/supply.c tests/solver.c
 compile differential tests/differential.c tests/guarded.c tests/supply.c tests/brute.c tests/solver.c
 
@@ -23,5 +24,6 @@ compile differential tests/differential.c tests/guarded.c tests/supply.c tests/b
 "$out/console" <tests/console.in | sed 's/lead-in: .*/lead-in/' >"$out/console.out"
 diff tests/console.out "$out/console.out"
 echo "console: prints what tests/console.out has"
+"$out/stack"
 "$out/threads"
-"$out/differential" "${SEED:-1}" "${CALLS:-1200000}"
+"$out/differential" "${SEED:-1}" "${CALLS:-2000000}"

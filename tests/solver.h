@@ -1,5 +1,5 @@
-/* A second solver for document 01, written from the document alone, to compare the library with. It works on words: it
- * cancels, sorts, takes pairs off and settles letter by letter, and keeps no pilings. Nothing about it is proved. */
+/* A second solver, written from the specification alone, to compare the library with. It works on words: it cancels,
+ * sorts, takes pairs off and settles letter by letter, and keeps no pilings. Nothing about it is proved. */
 #ifndef SOLVER_H
 #define SOLVER_H
 
@@ -35,9 +35,11 @@ void solver_word(const uint8_t *plan, size_t size, struct word *w);
 void solver_normal(const struct conflicts *k, struct word *w);
 bool solver_same(const struct word *a, const struct word *b);
 
-/* The four calls, with the arguments and the answers of busplan.h. */
+/* The calls, with the arguments and the answers of busplan.h. */
 int64_t solver_normal_form(const uint8_t *catalogue, size_t catalogue_size, const uint8_t *plan, size_t plan_size,
                            uint8_t *area, size_t area_size);
+int64_t solver_core(const uint8_t *catalogue, size_t catalogue_size, const uint8_t *plan, size_t plan_size,
+                    uint8_t *area, size_t area_size);
 int64_t solver_equal(const uint8_t *catalogue, size_t catalogue_size, const uint8_t *v, size_t v_size,
                      const uint8_t *w, size_t w_size);
 int64_t solver_loops(const uint8_t *catalogue, size_t catalogue_size, const uint8_t *v, size_t v_size,
@@ -45,5 +47,7 @@ int64_t solver_loops(const uint8_t *catalogue, size_t catalogue_size, const uint
 int64_t solver_lead_in_check(const uint8_t *catalogue, size_t catalogue_size, const uint8_t *v, size_t v_size,
                              const uint8_t *w, size_t w_size, const uint8_t *u, size_t u_size,
                              uint8_t *area0, size_t area0_size, uint8_t *area1, size_t area1_size);
+int64_t solver_fault(const uint8_t *catalogue, size_t catalogue_size, const uint8_t *v, size_t v_size,
+                     const uint8_t *w, size_t w_size, const uint8_t *u, size_t u_size, uint64_t fault[2]);
 
 #endif

@@ -1,6 +1,6 @@
 /* Two promises of busplan.h: several threads may call at once, and a call gets by with BUSPLAN_STACK bytes of stack.
- * Four threads put the same questions, each in its own order; every answer and every byte must be as it was when one
- * thread asked alone. Their stacks are filled beforehand, so that it shows how far they were used. */
+ * Four threads with stacks of that size put the same questions, each in its own order; every answer and every byte must
+ * be as it was when one thread asked alone. */
 #include "calls.h"
 #include "supply.h"
 
@@ -10,8 +10,7 @@
 #include <string.h>
 
 /* THREAD_STACK is for what a thread itself needs beside a call. */
-enum { THREADS = 4, QUESTIONS = 600, MOST_AREA = 1 << 16 };
-enum { LENT_STACK = 1 << 23, THREAD_STACK = 1 << 14, PAINT = 0xA5 };
+enum { THREADS = 4, QUESTIONS = 600, MOST_AREA = 1 << 16, THREAD_STACK = 1 << 14 };
 
 struct task {
     struct question question;
@@ -36,7 +35,7 @@ static struct slice keep(const struct bytes *from) {
     return (struct slice){memcpy(new_bytes(from->size), from->at, from->size), from->size};
 }
 
-/* A random question; every tenth has long plans and a lead-in that is long too. */
+/* A random question; every tenth has long plans and a lead-in that is long too, and every seventh a damaged plan. */
 static struct question draw_question(size_t number) {
     static struct bytes catalogue, v, w, u;
     struct conflicts k;
@@ -47,6 +46,7 @@ static struct question draw_question(size_t number) {
     if (!large) random_plan(&k, &v);
     joined_plan(&k, &v, &w, &u);
     if (large) lengthen_lead_in(&v, &w, &u);
+    if (number % 7 == 0) damage_plan(&k, &w, MOST_PLAN);
     return (struct question){(enum call)(number / 10 % CALLS), keep(&catalogue), {keep(&v), keep(&w), keep(&u)}};
 }
 
@@ -78,39 +78,28 @@ static void *ask_all(void *number) {
     return same ? NULL : number;
 }
 
-/* A stack grows downwards through bytes that were all PAINT. */
-static size_t stack_used(const uint8_t *stack) {
-    size_t free_bytes = 0;
-    while (free_bytes < LENT_STACK && stack[free_bytes] == PAINT) free_bytes++;
-    return LENT_STACK - free_bytes;
-}
-
-static void start(pthread_t *thread, uint8_t *stack, size_t *number) {
+static void start(pthread_t *thread, size_t *number) {
     pthread_attr_t attributes;
-    memset(stack, PAINT, LENT_STACK);
     pthread_attr_init(&attributes);
-    if (pthread_attr_setstack(&attributes, stack, LENT_STACK) != 0
+    if (pthread_attr_setstacksize(&attributes, BUSPLAN_STACK + THREAD_STACK) != 0
         || pthread_create(thread, &attributes, ask_all, number) != 0)
         fail("cannot start a thread");
 }
 
 int main(void) {
-    static _Alignas(4096) uint8_t stack[THREADS][LENT_STACK];
     pthread_t thread[THREADS];
-    size_t number[THREADS], most = 0;
+    size_t number[THREADS];
     seed_random(1);
     ask_alone();
     for (size_t i = 0; i < THREADS; i++) {
         number[i] = i;
-        start(&thread[i], stack[i], &number[i]);
+        start(&thread[i], &number[i]);
     }
     for (size_t i = 0; i < THREADS; i++) {
         void *wrong;
         pthread_join(thread[i], &wrong);
         if (wrong != NULL) fail("an answer differs when several threads call at once");
-        if (stack_used(stack[i]) > most) most = stack_used(stack[i]);
     }
-    printf("threads: %d calls in each of %d threads, %zu bytes of stack: all as alone\n", QUESTIONS, THREADS, most);
-    if (most > BUSPLAN_STACK + THREAD_STACK) fail("that is more stack than BUSPLAN_STACK");
+    printf("threads: %d calls in each of %d threads with BUSPLAN_STACK bytes: all as alone\n", QUESTIONS, THREADS);
     return 0;
 }
