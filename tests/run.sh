@@ -1,11 +1,13 @@
 #!/bin/sh
-# Compiles the C tests against the library's archive and runs them: the table of cases, the example console, the stack
-# of each call, calls from several threads, and more than a million random calls beside a second solver.
+# Holds the header to the Rattle source, then compiles the C tests against the library's archive and runs them: the
+# table of cases, the example console, the stack of each call, calls from several threads, and more than a million
+# random calls beside a second solver.
 #
 #   tests/run.sh [LIBRARY]     LIBRARY: another archive or shared library with the calls of include/busplan.h
 #
 # SEED (default 1) and CALLS (default 2000000) set the random calls.
 set -e
+"$(dirname "$0")/header.sh"
 . "$(dirname "$0")/library.sh"
 out=target/tests
 mkdir -p "$out"
