@@ -1,59 +1,163 @@
-/* A small console for bus plans. It reads lines from standard input:
+/* A console for bus plans. It reads lines from standard input, as the list below says, and answers on standard output.
  *
- *   commands 4              the number of commands
- *   conflicts 1-2 2-3 3-4   the pairs that conflict (all others may swap)
- *   normal 1 3 -1           the normal form of a plan; -1 undoes 1, 0 is a filler
- *   equal 1 3 / 3 1         do two plans have the same effect
- *   loops 1 2 / 2 1         are two loops joined, and by which lead-in
- *   check 1 2 / 2 1 / 1     is the third plan a lead-in from the first loop to the second
+ * A mistake is reported on standard error with its line number, nothing of its line is taken, and the exit status will
+ * be 1. After a mistake in a line that gives, or may have been meant to give, a part of the catalogue, no question is
+ * answered until a corrected line has come. A corrected conflicts line names all commands that the bad one names.
  *
  * Build, after `rt staticlib busplan`, from the repository's root:
  *   gcc -O2 -Iinclude examples/console.c target/staticlib/libbusplan.a -o target/console
  */
+#define _POSIX_C_SOURCE 200809L
 #include "busplan.h"
 
+#include <stdarg.h>
+#include <stdbool.h>
 #include <stdio.h>
 #include <stdlib.h>
 #include <string.h>
+#include <unistd.h>
 
-#define MOST_LETTERS 60000
-#define MOST_PLANS 3
+static const char help_text[] =
+    "commands 4              the number of commands, 0 to 24; comes first, and clears the conflicts\n"
+    "conflicts 1-2, 2-3 3-4  pairs that conflict (all others may swap), added to those given before\n"
+    "catalogue               shows what holds: the pairs, and the catalogue's bytes in hexadecimal\n"
+    "normal 1 3 -1           the normal form of a plan; -1 undoes 1, and 0 is a filler\n"
+    "core 1 2 -1             the core of a plan\n"
+    "equal 1 3 / 3 1         do two plans have the same effect?\n"
+    "loops 1 2 / 2 1         are two loops joined, and by which lead-in?\n"
+    "check 1 2 / 2 1 / 1     is the third plan a lead-in from the first loop to the second?\n"
+    "help                    prints this list\n"
+    "quit                    ends the console, as the end of the input does\n"
+    "Blanks and commas separate numbers and pairs; blanks stand around /; # starts a comment.\n";
 
-static uint8_t conflicting[BUSPLAN_MAX_COMMANDS + 1][BUSPLAN_MAX_COMMANDS + 1];
-static unsigned commands;
-static uint8_t plan[MOST_PLANS][MOST_LETTERS];
-static size_t size[MOST_PLANS];
-static uint8_t area[2][2 * MOST_LETTERS];
+#define BLANKS " \t"
+#define SEPARATORS " \t,"
 
-static const char *const refusals[] = {
-    "",
-    "the catalogue is not 2 + N + 2R bytes",
-    "the catalogue has more than 24 commands",
-    "the catalogue has an index above R",
-    "the catalogue has a record whose command is 0 or above N",
-    "a command's chain doesn't end",
-    "a command stands in its own chain",
-    "a plan is over 1,024 bytes (a lead-in over 49,152)",
-    "a plan has a byte that is no command, no undo and no filler",
-    "an area is too small",
-    "a part of a core is unsettled after N rounds",
-    "the input is badly framed",
-};
+enum { MOST_LINE = 1 << 20, MOST_PLANS = 3, MOST_SHOWN = 40 };
 
-static const char *refusal(int64_t answer) {
-    return answer >= -11 ? refusals[-answer] : "an unknown refusal";
+/* Linux hands over at most 4,095 bytes of a line that is typed on a terminal and drops the rest in silence: a line of
+ * 4,095 may be a cut one. */
+enum { MOST_TERMINAL_LINE = 4094 };
+
+/* The line being read, up to its end, a NUL byte or the limit. */
+static char text[MOST_LINE + 1];
+static unsigned long line_number;
+
+static int status = EXIT_SUCCESS;
+static bool done;
+
+/* ---- Messages */
+
+/* Reports a mistake on standard error; false, so that a function that finds one can return it. */
+static bool complain(const char *format, ...) {
+    va_list arguments;
+    va_start(arguments, format);
+    fprintf(stderr, "line %lu: ", line_number);
+    vfprintf(stderr, format, arguments);
+    fputc('\n', stderr);
+    va_end(arguments);
+    status = EXIT_FAILURE;
+    return false;
 }
 
-/* The catalogue's bytes: a chain for each command of the larger commands that conflict with it. A record that is there
- * already, with the same command and the same next record, is used again, so chains share their tails. Command b stands
- * in at most b - 1 chains and has at most 2^(24 - b) different tails behind it: 202 records are always enough. */
-static size_t catalogue(uint8_t *bytes) {
+struct word {
+    const char *at;
+    size_t size;
+};
+
+/* A word for a message: bytes that don't print are written \xNN, and a long word is shortened. */
+static const char *shown(struct word word) {
+    static char buffer[4 * MOST_SHOWN + sizeof "..."];
+    char *end = buffer;
+    for (size_t i = 0; i < word.size && i < MOST_SHOWN; i++) {
+        unsigned char c = (unsigned char)word.at[i];
+        if (c > ' ' && c <= '~' && c != '\\') *end++ = (char)c;
+        else end += sprintf(end, "\\x%02x", c);
+    }
+    strcpy(end, word.size > MOST_SHOWN ? "..." : "");
+    return buffer;
+}
+
+/* A number below 1,000,000 with a comma after its thousands, and with an ending. */
+static const char *counted(uint64_t number, const char *ending) {
+    static char buffer[32];
+    unsigned thousands = (unsigned)(number / 1000), rest = (unsigned)(number % 1000);
+    if (thousands == 0) snprintf(buffer, sizeof buffer, "%u%s", rest, ending);
+    else snprintf(buffer, sizeof buffer, "%u,%03u%s", thousands, rest, ending);
+    return buffer;
+}
+
+static const char *ordinal(uint64_t number) {
+    static const char *const endings[] = {"th", "st", "nd", "rd"};
+    bool teen = number / 10 % 10 == 1;
+    return counted(number, teen || number % 10 > 3 ? "th" : endings[number % 10]);
+}
+
+/* ---- Words and numbers */
+
+/* Takes the next word off a text; false if there is none. */
+static bool next_word(const char **rest, const char *separators, struct word *word) {
+    word->at = *rest + strspn(*rest, separators);
+    word->size = strcspn(word->at, separators);
+    *rest = word->at + word->size;
+    return word->size > 0;
+}
+
+static bool is(struct word word, const char *name) {
+    return word.size == strlen(name) && memcmp(word.at, name, word.size) == 0;
+}
+
+/* Whether nothing follows the last argument. */
+static bool ended(const char *rest) {
+    struct word word;
+    return !next_word(&rest, BLANKS, &word) || complain("words after the last argument: %s", shown(word));
+}
+
+/* No catalogue has a command of this number, and each number up to it fits a plan's byte. */
+enum { NO_COMMAND = 127 };
+
+/* Takes a number off the front of a word: decimal digits with no leading zero. However many digits it has, one above
+ * NO_COMMAND counts as NO_COMMAND. */
+static bool take_number(struct word *word, unsigned *number) {
+    size_t digits = 0;
+    *number = 0;
+    for (; digits < word->size && word->at[digits] >= '0' && word->at[digits] <= '9'; digits++) {
+        *number = 10 * *number + (unsigned)(word->at[digits] - '0');
+        if (*number > NO_COMMAND) *number = NO_COMMAND;
+    }
+    bool leading_zero = digits > 1 && word->at[0] == '0';
+    word->at += digits;
+    word->size -= digits;
+    return digits > 0 && !leading_zero;
+}
+
+static bool take_dash(struct word *word) {
+    if (word->size == 0 || *word->at != '-') return false;
+    word->at++;
+    word->size--;
+    return true;
+}
+
+/* ---- Catalogue */
+
+static unsigned commands;
+static struct pairs {
+    bool holds[BUSPLAN_MAX_COMMANDS + 1][BUSPLAN_MAX_COMMANDS + 1]; /* [a][b] with a < b */
+} conflicts;
+static uint8_t catalogue[BUSPLAN_MAX_CATALOGUE];
+static size_t catalogue_size; /* 0 until a commands line has come */
+
+/* Writes the catalogue's bytes: for each command a chain of the larger commands that conflict with it. A record that
+ * is there already, with the same command and the same next record, is used again, so chains share their tails.
+ * Command b stands in at most b - 1 chains and has at most 2^(24 - b) different tails behind it. The smaller of the
+ * two, summed for b from 2 to 24, is 202: so many records are always enough. */
+static void pack_catalogue(void) {
     uint8_t record[256][2];
     unsigned records = 0;
     for (unsigned a = 1; a <= commands; a++) {
         unsigned next = 0;
         for (unsigned b = commands; b > a; b--) {
-            if (!conflicting[a][b]) continue;
+            if (!conflicts.holds[a][b]) continue;
             unsigned r = 1;
             while (r <= records && (record[r][0] != b || record[r][1] != next)) r++;
             if (r > records) {
@@ -63,116 +167,396 @@ static size_t catalogue(uint8_t *bytes) {
             }
             next = r;
         }
-        bytes[1 + a] = (uint8_t)next;
+        catalogue[1 + a] = (uint8_t)next;
     }
-    bytes[0] = (uint8_t)commands;
-    bytes[1] = (uint8_t)records;
-    for (unsigned r = 1; r <= records; r++) memcpy(bytes + commands + 2 * r, record[r], 2);
-    return 2 + commands + 2 * records;
+    catalogue[0] = (uint8_t)commands;
+    catalogue[1] = (uint8_t)records;
+    for (unsigned r = 1; r <= records; r++) memcpy(catalogue + commands + 2 * r, record[r], 2);
+    catalogue_size = 2 + commands + 2 * records;
 }
 
-static int complain(const char *what, const char *word) {
-    printf("%s%s\n", what, word);
-    return -1;
+/* ---- Mistakes in the catalogue */
+
+/* The kinds of lines that give a part of the catalogue. */
+enum part { COMMANDS, CONFLICTS, NEITHER };
+
+/* The first bad commands line since a good one, or 0. */
+static unsigned long bad_commands;
+
+/* Lines that were to give conflicts and are not corrected yet, with the commands that each names, as bits. Where there
+ * are more, the last one stands for them. */
+enum { MOST_MISTAKES = 64 };
+static struct mistake {
+    unsigned long line;
+    uint32_t names;
+} mistakes[MOST_MISTAKES];
+static size_t mistake_count;
+
+/* The commands that a text names, whatever stands around the numbers. */
+static uint32_t named(const char *rest) {
+    uint32_t names = 0;
+    while (*(rest += strcspn(rest, "0123456789")) != '\0') {
+        struct word digits = {rest, strspn(rest, "0123456789")};
+        unsigned number;
+        rest += digits.size;
+        if (take_number(&digits, &number) && number >= 1 && number <= BUSPLAN_MAX_COMMANDS) names |= 1u << number;
+    }
+    return names;
 }
 
-/* Reads up to MOST_PLANS plans with `/` between them; returns how many, or -1 after a message. */
-static int read_plans(char *text) {
-    int plans = 1;
-    memset(size, 0, sizeof size);
-    for (char *word = strtok(text, " \t\n"); word; word = strtok(NULL, " \t\n")) {
-        if (!strcmp(word, "/")) {
-            if (plans == MOST_PLANS) return complain("too many plans", "");
-            plans++;
-            continue;
+/* What a correction must still name of what a bad line names; numbers above N are no commands. */
+static uint32_t missing(const struct mistake *mistake, uint32_t names) {
+    return mistake->names & ~names & ((2u << commands) - 1);
+}
+
+static void spoil(enum part part, const char *rest) {
+    if (part == COMMANDS && bad_commands == 0) bad_commands = line_number;
+    if (part != CONFLICTS) return;
+    if (mistake_count < MOST_MISTAKES) mistakes[mistake_count++] = (struct mistake){line_number, 0};
+    mistakes[mistake_count - 1].names |= named(rest);
+}
+
+/* A good conflicts line corrects each bad one whose commands it names, so that one more line of a list is not easily
+ * taken for a correction. A line with no pair says that what holds is right. */
+static void correct(const char *rest) {
+    struct word word;
+    bool all = !next_word(&rest, SEPARATORS, &word);
+    uint32_t names = all ? 0 : named(word.at);
+    size_t left = 0;
+    for (size_t i = 0; i < mistake_count; i++) {
+        if (all || missing(&mistakes[i], names) == 0) printf("line %lu counts as corrected\n", mistakes[i].line);
+        else mistakes[left++] = mistakes[i];
+    }
+    mistake_count = left;
+}
+
+/* A good line has come. */
+static void settle(enum part part, const char *rest) {
+    if (part == CONFLICTS) correct(rest);
+    if (part != COMMANDS || bad_commands == 0) return;
+    printf("line %lu counts as corrected\n", bad_commands);
+    bad_commands = 0;
+}
+
+#define AWAITED "is awaited (conflicts alone keeps what holds)"
+
+/* Why no question is answered, or NULL. */
+static const char *hindrance(void) {
+    static char buffer[240], names[120];
+    if (bad_commands != 0) {
+        snprintf(buffer, sizeof buffer, "after the mistake on line %lu a commands line is awaited", bad_commands);
+        return buffer;
+    }
+    if (catalogue_size == 0) return "no commands line has come yet";
+    if (mistake_count == 0) return NULL;
+    uint32_t awaited = missing(mistakes, 0);
+    int size = sprintf(names, "%s", awaited == 0 ? "" : " that names");
+    for (unsigned k = 1; k <= commands; k++)
+        if (awaited >> k & 1) size += sprintf(names + size, " %u", k);
+    snprintf(buffer, sizeof buffer, "after the mistake on line %lu a conflicts line%s " AWAITED,
+             mistakes->line, names);
+    return buffer;
+}
+
+/* ---- Lines that give and show the catalogue */
+
+/* Counts the pairs, and prints each behind a blank if wanted. */
+static unsigned count_pairs(bool print) {
+    unsigned count = 0;
+    for (unsigned a = 1; a <= commands; a++) {
+        for (unsigned b = a + 1; b <= commands; b++) {
+            if (!conflicts.holds[a][b]) continue;
+            count++;
+            if (print) printf(" %u-%u", a, b);
         }
-        char *end;
-        long k = strtol(word, &end, 10);
-        if (*end || k < -127 || k > 127) return complain("not a command: ", word);
-        if (size[plans - 1] == MOST_LETTERS) return complain("the plan is too long", "");
-        plan[plans - 1][size[plans - 1]++] = (uint8_t)(k < 0 ? 128 - k : k);
     }
-    return plans;
+    return count;
 }
 
-static void print_plan(const uint8_t *p, int64_t n) {
-    if (n == 0) printf(" (empty)");
-    for (int64_t i = 0; i < n; i++) printf(" %d", p[i] > 128 ? 128 - p[i] : p[i]);
+static bool take_commands(const char *rest) {
+    struct word word;
+    unsigned number;
+    if (!next_word(&rest, BLANKS, &word)) return complain("commands takes the number of commands, 0 to 24");
+    struct word left = word;
+    if (!take_number(&left, &number) || left.size > 0 || number > BUSPLAN_MAX_COMMANDS)
+        return complain("not a number of commands, 0 to 24: %s", shown(word));
+    if (!ended(rest)) return false;
+    if (catalogue_size > 0) printf("conflicts cleared: %u\n", count_pairs(false));
+    commands = number;
+    conflicts = (struct pairs){0};
+    pack_catalogue();
+    return true;
+}
+
+/* Reads a pair: exactly two numbers and a dash. The smaller command goes to *a. */
+static bool read_pair(struct word word, unsigned *a, unsigned *b) {
+    unsigned x, y;
+    if (!take_number(&word, &x) || !take_dash(&word) || !take_number(&word, &y) || word.size > 0) return false;
+    *a = x < y ? x : y;
+    *b = x < y ? y : x;
+    return *a >= 1 && *a < *b && *b <= commands;
+}
+
+static bool take_conflicts(const char *rest) {
+    struct pairs taken = conflicts;
+    struct word word;
+    unsigned a, b;
+    if (catalogue_size == 0 || bad_commands != 0) return complain("conflicts before a good commands line");
+    while (next_word(&rest, SEPARATORS, &word)) {
+        if (!read_pair(word, &a, &b))
+            return complain("not a pair of two different commands from 1 to %u: %s", commands, shown(word));
+        taken.holds[a][b] = true;
+    }
+    conflicts = taken;
+    pack_catalogue();
+    return true;
+}
+
+/* Shows a catalogue only if the library takes it. */
+static bool show_catalogue(const char *rest) {
+    uint64_t fault[2];
+    if (!ended(rest)) return false;
+    if (catalogue_size > 0) {
+        int64_t answer = busplan_fault(catalogue, catalogue_size, NULL, 0, NULL, 0, NULL, 0, fault);
+        if (answer < 0) return complain("%s", busplan_refusal_text(answer));
+        printf("%u command%s\n", commands, commands == 1 ? "" : "s");
+        fputs(count_pairs(false) == 0 ? "no conflicts" : "conflicts:", stdout);
+        count_pairs(true);
+        printf("\nbytes:");
+        for (size_t i = 0; i < catalogue_size; i++) printf(" %02x", catalogue[i]);
+        putchar('\n');
+    }
+    if (hindrance()) printf("no question is answered: %s\n", hindrance());
+    return true;
+}
+
+/* ---- Plans */
+
+/* A letter takes at least one byte of its line, so no line has more letters than this. */
+static uint8_t letters[MOST_LINE];
+static struct plan {
+    const uint8_t *at;
+    size_t size;
+} plan[MOST_PLANS];
+static uint8_t area[2][BUSPLAN_MAX_CHECK_ROOM]; /* the largest room that a call asks for */
+
+/* Reads 3, -3 or 0. A number above NO_COMMAND is handed over as NO_COMMAND, so that the library finds it as it finds
+ * any other that is no command of the catalogue. */
+static bool read_letter(struct word word, uint8_t *letter) {
+    unsigned number;
+    bool undo = take_dash(&word);
+    if (!take_number(&word, &number) || word.size > 0 || (undo && number == 0)) return false;
+    *letter = (uint8_t)(undo ? 128 + number : number);
+    return true;
+}
+
+static const char *plan_name(unsigned plans, uint64_t number) {
+    static const char *const names[] = {"plan 1", "plan 2", "plan 3"};
+    return plans == 1 ? "the plan" : names[number - 1];
+}
+
+/* Reads as many plans as a question takes, with / between them; false after a message. */
+static bool read_plans(const char *verb, unsigned plans, const char *rest) {
+    static const char *const wanted[] = {"one plan", "two plans, with / between them",
+                                         "three plans, with / between them"};
+    uint8_t *end = letters;
+    unsigned number = 1;
+    struct word word;
+    for (unsigned i = 0; i < MOST_PLANS; i++) plan[i] = (struct plan){letters, 0};
+    while (next_word(&rest, SEPARATORS, &word)) {
+        struct plan *last = &plan[number - 1];
+        if (is(word, "/")) {
+            if (number == plans) return complain("%s takes %s", verb, wanted[plans - 1]);
+            plan[number++].at = end;
+        } else if (read_letter(word, end)) {
+            end++;
+            last->size++;
+        } else {
+            return complain("%s, its %s command: not of the form 3, -3 or 0: %s", plan_name(plans, number),
+                            ordinal(last->size + 1), shown(word));
+        }
+    }
+    return number == plans || complain("%s takes %s", verb, wanted[plans - 1]);
+}
+
+/* The word that was typed for a letter: plans are counted from 1, places from 0. */
+static struct word typed(const char *rest, uint64_t number, uint64_t place) {
+    struct word word;
+    while (next_word(&rest, SEPARATORS, &word)) {
+        if (is(word, "/")) number--;
+        else if (number == 1 && place-- == 0) break;
+    }
+    return word;
+}
+
+/* Says in the planner's words why the library refused the plans. */
+static bool explain(int64_t answer, unsigned plans, const char *rest) {
+    uint64_t fault[2];
+    int64_t reason = busplan_fault(catalogue, catalogue_size, plan[0].at, plan[0].size, plan[1].at, plan[1].size,
+                                   plan[2].at, plan[2].size, fault);
+    if (reason == -BUSPLAN_PLAN_BYTE)
+        return complain("%s, its %s command: %s is no command of this catalogue", plan_name(plans, fault[0]),
+                        ordinal(fault[1] + 1), shown(typed(rest, fault[0], fault[1])));
+    if (reason == -BUSPLAN_PLAN_SIZE)
+        return complain("%s has %s commands and fillers, and at most %s are allowed", plan_name(plans, fault[0]),
+                        counted(plan[fault[0] - 1].size, ""), fault[0] == 3 ? "49,152" : "1,024");
+    return complain("%s", busplan_refusal_text(answer));
+}
+
+static void print_plan(const char *what, const uint8_t *letter, size_t size) {
+    printf("%s:%s", what, size == 0 ? " (empty)" : "");
+    for (size_t i = 0; i < size; i++) printf(" %d", letter[i] > 128 ? 128 - letter[i] : letter[i]);
     putchar('\n');
 }
 
-static void set_conflicts(char *text) {
-    memset(conflicting, 0, sizeof conflicting);
-    for (char *word = strtok(text, " \t\n,"); word; word = strtok(NULL, " \t\n,")) {
-        unsigned a, b;
-        if (sscanf(word, "%u-%u", &a, &b) != 2 || a < 1 || b < 1 || a > commands || b > commands || a == b)
-            printf("not a pair of two commands up to %u: %s\n", commands, word);
-        else
-            conflicting[a][b] = conflicting[b][a] = 1;
-    }
+/* ---- Questions: each prints the library's answer, if it is no refusal, and returns it */
+
+static int64_t print_normal_form(const char *what, struct plan p) {
+    int64_t answer = busplan_normal_form(catalogue, catalogue_size, p.at, p.size, area[0], sizeof area[0]);
+    if (answer >= 0) print_plan(what, area[0], (size_t)answer);
+    return answer;
 }
 
-static void answer(const char *verb, char *rest) {
-    uint8_t bytes[2 + BUSPLAN_MAX_COMMANDS + 2 * 255];
-    size_t n = catalogue(bytes);
-    int wanted = !strcmp(verb, "normal") ? 1 : !strcmp(verb, "check") ? 3 : 2;
-    int plans = read_plans(rest);
-    if (plans < 0) return;
-    if (plans != wanted) {
-        printf("%s takes %d plan%s\n", verb, wanted, wanted == 1 ? "" : "s with / between them");
-        return;
+static int64_t ask_normal(void) { return print_normal_form("normal form", plan[0]); }
+
+static int64_t ask_core(void) {
+    int64_t answer = busplan_core(catalogue, catalogue_size, plan[0].at, plan[0].size, area[0], sizeof area[0]);
+    if (answer >= 0) print_plan("core", area[0], (size_t)answer);
+    return answer;
+}
+
+static int64_t ask_equal(void) {
+    int64_t answer = busplan_equal(catalogue, catalogue_size, plan[0].at, plan[0].size, plan[1].at, plan[1].size);
+    if (answer == 1) puts("equal");
+    if (answer == 0) {
+        puts("not equal; the normal forms are");
+        print_normal_form("  plan 1", plan[0]);
+        print_normal_form("  plan 2", plan[1]);
     }
-    int64_t r;
-    if (wanted == 1)
-        r = busplan_normal_form(bytes, n, plan[0], size[0], area[0], sizeof area[0]);
-    else if (wanted == 3)
-        r = busplan_lead_in_check(bytes, n, plan[0], size[0], plan[1], size[1], plan[2], size[2],
-                                  area[0], sizeof area[0], area[1], sizeof area[1]);
-    else if (!strcmp(verb, "equal"))
-        r = busplan_equal(bytes, n, plan[0], size[0], plan[1], size[1]);
-    else
-        r = busplan_loops(bytes, n, plan[0], size[0], plan[1], size[1], area[0], sizeof area[0]);
-    if (r < 0) {
-        printf("refused %lld: %s\n", (long long)-r, refusal(r));
-    } else if (wanted == 1) {
-        printf("normal form:");
-        print_plan(area[0], r);
-    } else if (wanted == 3) {
-        puts(r ? "yes, a lead-in" : "no, not a lead-in");
-    } else if (!strcmp(verb, "equal")) {
-        puts(r ? "equal" : "not equal");
-    } else if (r == 0) {
-        puts("apart");
-    } else {
-        printf("joined, lead-in:");
-        print_plan(area[0], r - 1);
+    return answer;
+}
+
+static int64_t ask_loops(void) {
+    int64_t answer = busplan_loops(catalogue, catalogue_size, plan[0].at, plan[0].size, plan[1].at, plan[1].size,
+                                   area[0], sizeof area[0]);
+    if (answer == 0) puts("apart");
+    if (answer > 0) print_plan("joined, lead-in", area[0], (size_t)answer - 1);
+    return answer;
+}
+
+/* No normal form holds a 0, so in areas of zeros the first 0 ends it. */
+static int64_t ask_check(void) {
+    memset(area, 0, sizeof area);
+    int64_t answer = busplan_lead_in_check(catalogue, catalogue_size, plan[0].at, plan[0].size,
+                                           plan[1].at, plan[1].size, plan[2].at, plan[2].size,
+                                           area[0], sizeof area[0], area[1], sizeof area[1]);
+    if (answer == 1) puts("yes, a lead-in");
+    if (answer == 0) {
+        puts("no, not a lead-in; the normal forms are");
+        print_plan("  plan 1 then plan 3", area[0], strnlen((const char *)area[0], sizeof area[0]));
+        print_plan("  plan 3 then plan 2", area[1], strnlen((const char *)area[1], sizeof area[1]));
     }
+    return answer;
+}
+
+/* ---- Lines */
+
+static bool help(const char *rest) {
+    if (!ended(rest)) return false;
+    fputs(help_text, stdout);
+    return true;
+}
+
+static bool quit(const char *rest) {
+    done = ended(rest);
+    return done;
+}
+
+/* A first word, what part of the catalogue its line gives, and the function that obeys the line and is false after a
+ * mistake; for a question the number of its plans and the function that asks it. */
+static const struct verb {
+    const char *name;
+    enum part part;
+    bool (*obey)(const char *rest);
+    unsigned plans;
+    int64_t (*ask)(void);
+} verbs[] = {
+    {"commands", COMMANDS, take_commands, 0, NULL},
+    {"conflicts", CONFLICTS, take_conflicts, 0, NULL},
+    {"catalogue", NEITHER, show_catalogue, 0, NULL},
+    {"help", NEITHER, help, 0, NULL},
+    {"quit", NEITHER, quit, 0, NULL},
+    {"normal", NEITHER, NULL, 1, ask_normal},
+    {"core", NEITHER, NULL, 1, ask_core},
+    {"equal", NEITHER, NULL, 2, ask_equal},
+    {"loops", NEITHER, NULL, 2, ask_loops},
+    {"check", NEITHER, NULL, 3, ask_check},
+};
+
+static const struct verb *find_verb(struct word word) {
+    for (size_t i = 0; i < sizeof verbs / sizeof *verbs; i++)
+        if (is(word, verbs[i].name)) return &verbs[i];
+    return NULL;
+}
+
+static bool obey_verb(const struct verb *verb, const char *rest) {
+    if (verb->obey) return verb->obey(rest);
+    if (hindrance()) return complain("not answered: %s", hindrance());
+    if (!read_plans(verb->name, verb->plans, rest)) return false;
+    int64_t answer = verb->ask();
+    return answer >= 0 || explain(answer, verb->plans, rest);
+}
+
+/* Reads the next line to its end, however long it is; false at the end of the input. What makes the line as a whole a
+ * mistake goes to *damage, or NULL. */
+static bool read_line(bool terminal, const char **damage) {
+    size_t size = 0, most = terminal ? MOST_TERMINAL_LINE : MOST_LINE;
+    int c;
+    line_number++;
+    *damage = NULL;
+    while ((c = getchar()) != EOF && c != '\n') {
+        if (*damage) continue;
+        if (c == '\0') *damage = "a NUL byte";
+        else if (size < most) text[size++] = (char)c;
+        else *damage = terminal ? "over 4,094 bytes, and a terminal may have cut it" : "over 1,048,576 bytes";
+    }
+    if (size > 0 && text[size - 1] == '\r' && !*damage) size--;
+    text[size] = '\0';
+    return !ferror(stdin) && (c != EOF || size > 0 || *damage);
+}
+
+/* Obeys a line. A damaged one is a mistake of the kind that its first word says, if that word is whole. An unknown
+ * word may have been meant to give a part of the catalogue. */
+static void obey_line(const char *damage) {
+    size_t end = strcspn(text, "#");
+    bool cut = damage && text[end] == '\0';
+    text[end] = '\0';
+    const char *rest = text;
+    struct word word;
+    bool blank = !next_word(&rest, BLANKS, &word);
+    if (damage) complain("nothing of this line is taken: %s", damage);
+    if (blank && !cut) return;
+    const struct verb *verb = cut && *rest == '\0' ? NULL : find_verb(word);
+    if (!verb && !damage)
+        complain("unknown word, perhaps meant for the catalogue, so a conflicts line " AWAITED ": %s", shown(word));
+    if (!verb) spoil(CONFLICTS, rest);
+    else if (damage || !obey_verb(verb, rest)) spoil(verb->part, rest);
+    else settle(verb->part, rest);
 }
 
 int main(void) {
-    static char line[1 << 20];
-    while (fgets(line, sizeof line, stdin)) {
-        char verb[16] = "";
-        int at = 0;
-        sscanf(line, "%15s%n", verb, &at);
-        char *rest = line + at;
-        if (!*verb || *verb == '#') continue;
-        if (!strcmp(verb, "quit")) break;
-        if (!strcmp(verb, "commands")) {
-            char *end;
-            unsigned long k = strtoul(rest, &end, 10);
-            if (end == rest || k > BUSPLAN_MAX_COMMANDS) puts("the number of commands is 0 to 24");
-            else commands = (unsigned)k, memset(conflicting, 0, sizeof conflicting);
-        } else if (!strcmp(verb, "conflicts")) {
-            set_conflicts(rest);
-        } else if (!strcmp(verb, "normal") || !strcmp(verb, "equal") || !strcmp(verb, "loops")
-                   || !strcmp(verb, "check")) {
-            answer(verb, rest);
-        } else {
-            puts("commands N | conflicts a-b ... | normal PLAN | equal PLAN / PLAN | loops PLAN / PLAN | "
-                 "check PLAN / PLAN / PLAN | quit");
+    bool terminal = isatty(STDIN_FILENO), prompt = terminal && isatty(STDOUT_FILENO);
+    const char *damage;
+    for (;;) {
+        if (prompt && !done) fputs("> ", stdout);
+        if (fflush(stdout) != 0 || ferror(stdout)) {
+            complain("cannot write standard output");
+            break;
         }
-        fflush(stdout);
+        if (done || !read_line(terminal, &damage)) break;
+        obey_line(damage);
     }
-    return 0;
+    if (ferror(stdin)) complain("cannot read standard input");
+    if (prompt && !done) putchar('\n');
+    return status;
 }

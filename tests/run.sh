@@ -17,15 +17,12 @@ compile() { # NAME SOURCE...
   "$cc" -O2 -Wall -Wextra -pthread -Iinclude "$@" "$library" -Wl,-rpath,"$(dirname "$library")" -o "$out/$name"
 }
 compile cases tests/cases.c tests/guarded.c tests/solver.c
-compile console examples/console.c
 compile stack tests/stack.c tests/supply.c tests/solver.c
 compile threads tests/threads.c tests/supply.c tests/solver.c
 compile differential tests/differential.c tests/guarded.c tests/supply.c tests/brute.c tests/solver.c
 
 "$out/cases"
-"$out/console" <tests/console.in | sed 's/lead-in: .*/lead-in/' >"$out/console.out"
-diff tests/console.out "$out/console.out"
-echo "console: prints what tests/console.out has"
+tests/console.sh "$library"
 "$out/stack"
 "$out/threads"
 "$out/differential" "${SEED:-1}" "${CALLS:-2000000}"
