@@ -1,9 +1,10 @@
 #!/bin/sh
 # Holds the header to the Rattle source, then compiles the C tests against the library's archive and runs them: the
-# table of cases, the example console, the stack of each call, calls from several threads, and more than a million
-# random calls beside a second solver.
+# table of cases, the example console, an installed library, the stack of each call, calls from several threads, and
+# more than a million random calls beside a second solver.
 #
-#   tests/run.sh [LIBRARY]     LIBRARY: another archive or shared library with the calls of include/busplan.h
+#   tests/run.sh [LIBRARY]     LIBRARY: another archive or shared library with the calls of include/busplan.h, which is
+#                              then not installed
 #
 # SEED (default 1) and CALLS (default 2000000) set the random calls.
 set -e
@@ -23,6 +24,7 @@ compile differential tests/differential.c tests/guarded.c tests/supply.c tests/b
 
 "$out/cases"
 tests/console.sh "$library"
+if [ -z "$1" ]; then tests/install.sh; fi
 "$out/stack"
 "$out/threads"
 "$out/differential" "${SEED:-1}" "${CALLS:-2000000}"
