@@ -229,6 +229,12 @@ for input in tests/console_inputs/*.in "$out"/made/*.in; do
   same "${input%.in}"
 done
 
+# The manual shows one of them as a session.
+session=tests/console_inputs/manual_session
+{ sed 's/^/> /' "$session.in"; cat "$session.out" "$session.err"; } | while IFS= read -r line; do
+  grep -qxF "    $line" docs/MANUAL.md || fail "docs/MANUAL.md does not show this line: $line"
+done
+
 for build in $builds; do
   run "$build" "$out/most_records.in"
   grep '^bytes: 18 ca ' "$out/printed" >/dev/null || fail "most_records: $build build: not 202 records"
