@@ -15,6 +15,7 @@
 #include <stdio.h>
 #include <stdlib.h>
 #include <string.h>
+#include <strings.h>
 #include <unistd.h>
 
 static const char help_text[] =
@@ -192,16 +193,26 @@ static struct mistake {
 } mistakes[MOST_MISTAKES];
 static size_t mistake_count;
 
-/* The commands that a text names, whatever stands around the numbers. */
-static uint32_t named(const char *rest) {
-    uint32_t names = 0;
-    while (*(rest += strcspn(rest, "0123456789")) != '\0') {
-        struct word digits = {rest, strspn(rest, "0123456789")};
-        unsigned number;
-        rest += digits.size;
-        if (take_number(&digits, &number) && number >= 1 && number <= BUSPLAN_MAX_COMMANDS) names |= 1u << number;
+/* The commands that a text names, whatever stands around the numbers: gathered byte by byte. */
+struct names {
+    uint32_t commands;
+    unsigned number;
+};
+
+static void gather(struct names *names, int c) {
+    if (c >= '0' && c <= '9') {
+        if (names->number < NO_COMMAND) names->number = 10 * names->number + (unsigned)(c - '0');
+        return;
     }
-    return names;
+    if (names->number >= 1 && names->number <= BUSPLAN_MAX_COMMANDS) names->commands |= 1u << names->number;
+    names->number = 0;
+}
+
+static uint32_t named(const char *rest) {
+    struct names names = {0, 0};
+    do gather(&names, *rest);
+    while (*rest++ != '\0');
+    return names.commands;
 }
 
 /* What a correction must still name of what a bad line names; numbers above N are no commands. */
@@ -209,11 +220,20 @@ static uint32_t missing(const struct mistake *mistake, uint32_t names) {
     return mistake->names & ~names & ((2u << commands) - 1);
 }
 
-static void spoil(enum part part, const char *rest) {
+/* A line was bad that gives this part and names these commands. */
+static void spoil(enum part part, uint32_t names) {
     if (part == COMMANDS && bad_commands == 0) bad_commands = line_number;
     if (part != CONFLICTS) return;
-    if (mistake_count < MOST_MISTAKES) mistakes[mistake_count++] = (struct mistake){line_number, 0};
-    mistakes[mistake_count - 1].names |= named(rest);
+    bool another = mistake_count == 0 || mistakes[mistake_count - 1].line != line_number;
+    if (another && mistake_count < MOST_MISTAKES) mistakes[mistake_count++] = (struct mistake){line_number, 0};
+    mistakes[mistake_count - 1].names |= names;
+}
+
+/* As ended, for a line about the catalogue: words with a dash may be pairs. */
+static bool ended_without_pairs(const char *rest) {
+    if (ended(rest)) return true;
+    if (strchr(rest, '-')) spoil(CONFLICTS, named(rest));
+    return false;
 }
 
 /* A good conflicts line corrects each bad one whose commands it names, so that one more line of a list is not easily
@@ -280,7 +300,7 @@ static bool take_commands(const char *rest) {
     struct word left = word;
     if (!take_number(&left, &number) || left.size > 0 || number > BUSPLAN_MAX_COMMANDS)
         return complain("not a number of commands, 0 to 24: %s", shown(word));
-    if (!ended(rest)) return false;
+    if (!ended_without_pairs(rest)) return false;
     if (catalogue_size > 0) printf("conflicts cleared: %u\n", count_pairs(false));
     commands = number;
     conflicts = (struct pairs){0};
@@ -315,7 +335,7 @@ static bool take_conflicts(const char *rest) {
 /* Shows a catalogue only if the library takes it. */
 static bool show_catalogue(const char *rest) {
     uint64_t fault[2];
-    if (!ended(rest)) return false;
+    if (!ended_without_pairs(rest)) return false;
     if (catalogue_size > 0) {
         int64_t answer = busplan_fault(catalogue, catalogue_size, NULL, 0, NULL, 0, NULL, 0, fault);
         if (answer < 0) return complain("%s", busplan_refusal_text(answer));
@@ -507,27 +527,46 @@ static bool obey_verb(const struct verb *verb, const char *rest) {
     return answer >= 0 || explain(answer, verb->plans, rest);
 }
 
+static const char nul_byte[] = "a NUL byte", inner_cr[] = "a CR that is not at its end";
+
 /* Reads the next line to its end, however long it is; false at the end of the input. What makes the line as a whole a
- * mistake goes to *damage, or NULL. */
-static bool read_line(bool terminal, const char **damage) {
+ * mistake goes to *damage, or NULL, and the commands that it names to *names, also where they are not kept. */
+static bool read_line(bool terminal, const char **damage, uint32_t *names) {
     size_t size = 0, most = terminal ? MOST_TERMINAL_LINE : MOST_LINE;
+    struct names gathered = {0, 0};
+    bool cr = false;
     int c;
     line_number++;
     *damage = NULL;
     while ((c = getchar()) != EOF && c != '\n') {
+        gather(&gathered, c);
         if (*damage) continue;
-        if (c == '\0') *damage = "a NUL byte";
+        if (cr) *damage = inner_cr;
+        else if (c == '\0') *damage = nul_byte;
         else if (size < most) text[size++] = (char)c;
         else *damage = terminal ? "over 4,094 bytes, and a terminal may have cut it" : "over 1,048,576 bytes";
+        cr = c == '\r';
     }
-    if (size > 0 && text[size - 1] == '\r' && !*damage) size--;
+    gather(&gathered, '\n');
+    *names = gathered.commands;
+    if (size > 0 && text[size - 1] == '\r') size--;
     text[size] = '\0';
     return !ferror(stdin) && (c != EOF || size > 0 || *damage);
 }
 
-/* Obeys a line. A damaged one is a mistake of the kind that its first word says, if that word is whole. An unknown
- * word may have been meant to give a part of the catalogue. */
-static void obey_line(const char *damage) {
+/* Says that a first word is unknown, and which part of the catalogue its line may have been meant to give. */
+static enum part guess(struct word word, bool damaged) {
+    bool counts = false;
+    for (size_t i = 0; i + 3 <= word.size; i++) counts |= strncasecmp(word.at + i, "com", 3) == 0;
+    if (!damaged)
+        complain("unknown word, perhaps meant for the catalogue, so a %s: %s",
+                 counts ? "commands line is awaited" : "conflicts line " AWAITED, shown(word));
+    return counts ? COMMANDS : CONFLICTS;
+}
+
+/* Obeys a line. A damaged one is a mistake of the kind that its first word says, if that word is whole; behind a CR
+ * there may be further lines. */
+static void obey_line(const char *damage, uint32_t names) {
     size_t end = strcspn(text, "#");
     bool cut = damage && text[end] == '\0';
     text[end] = '\0';
@@ -535,26 +574,31 @@ static void obey_line(const char *damage) {
     struct word word;
     bool blank = !next_word(&rest, BLANKS, &word);
     if (damage) complain("nothing of this line is taken: %s", damage);
+    else names = named(text);
+    if (damage == inner_cr) spoil(CONFLICTS, names);
     if (blank && !cut) return;
     const struct verb *verb = cut && *rest == '\0' ? NULL : find_verb(word);
-    if (!verb && !damage)
-        complain("unknown word, perhaps meant for the catalogue, so a conflicts line " AWAITED ": %s", shown(word));
-    if (!verb) spoil(CONFLICTS, rest);
-    else if (damage || !obey_verb(verb, rest)) spoil(verb->part, rest);
+    if (!verb) spoil(guess(word, damage != NULL), names);
+    else if (damage || !obey_verb(verb, rest)) spoil(verb->part, names);
     else settle(verb->part, rest);
 }
 
-int main(void) {
+int main(int count, char **arguments) {
     bool terminal = isatty(STDIN_FILENO), prompt = terminal && isatty(STDOUT_FILENO);
     const char *damage;
+    uint32_t names;
+    if (count > 1) {
+        fprintf(stderr, "%s reads standard input and takes no arguments: %s <FILE\n", arguments[0], arguments[0]);
+        return 2;
+    }
     for (;;) {
         if (prompt && !done) fputs("> ", stdout);
         if (fflush(stdout) != 0 || ferror(stdout)) {
             complain("cannot write standard output");
             break;
         }
-        if (done || !read_line(terminal, &damage)) break;
-        obey_line(damage);
+        if (done || !read_line(terminal, &damage, &names)) break;
+        obey_line(damage, names);
     }
     if (ferror(stdin)) complain("cannot read standard input");
     if (prompt && !done) putchar('\n');

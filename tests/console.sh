@@ -68,6 +68,7 @@ corrected() { # LINE
 }
 
 nul="nothing of this line is taken: a NUL byte"
+cr="nothing of this line is taken: a CR that is not at its end"
 long="nothing of this line is taken: over 1,048,576 bytes"
 
 # Line ends.
@@ -77,14 +78,17 @@ printf 'commands 4\nconflicts 1-2\nconflicts 2-3x' | made mistake_without_newlin
 printf 'commands 4\r\nconflicts 1-2\r\n\r\nnormal 1 2 -1\r\nnormal\r\nequal 1 / 1\r\n# \r\nquit\r\n' | made cr_lf \
   'normal form: 1 2 -1\nnormal form: (empty)\nequal\n' ''
 printf 'commands 4\r\nnormal 1\r' | made cr_at_the_end 'normal form: 1\n' ''
-printf 'commands 4\rconflicts 1-2\rnormal 1 2 -1\r' | made cr_alone '' \
-  'line 1: not a number of commands, 0 to 24: 4\\x0dconflicts\n'
+printf 'commands 4\rconflicts 1-2\rnormal 1 2 -1\r' | made cr_alone '' "line 1: $cr\n"
 printf 'commands 4\nconflicts 1-2\r 2-3\nnormal 1\n' | made cr_between '' \
-  "line 2: not a pair of two different commands from 1 to 4: 1-2\\\\x0d\nline 3: not answered: $(awaited 2 "1 2 3")\n"
+  "line 2: $cr\nline 3: not answered: $(awaited 2 "1 2 3")\n"
+printf 'commands 4\nconflicts 1-2 # x\rconflicts 3-4\nnormal 1\nconflicts 1-2 3-4\nnormal 3 4 -3\n' | made cr_in_comment \
+  "$(corrected 2)\nnormal form: 3 4 -3\n" "line 2: $cr\nline 3: not answered: $(awaited 2 "1 2 3 4")\n"
+printf '# 4\rconflicts 1-2\r\ncommands 3\nnormal 1 2 -1\n' | made cr_before_conflicts '' \
+  "line 1: $cr\nline 3: not answered: $(awaited 1 "1 2")\n"
 
 # NUL bytes.
 printf 'commands 4\nconflicts 1-2\000 2-3\nnormal 2 3 -2\nconflicts 1-2 2-3\nnormal 2 3 -2\n' | made nul_in_conflicts \
-  "$(corrected 2)\nnormal form: 2 3 -2\n" "line 2: $nul\nline 3: not answered: $(awaited 2 "1 2")\n"
+  "$(corrected 2)\nnormal form: 2 3 -2\n" "line 2: $nul\nline 3: not answered: $(awaited 2 "1 2 3")\n"
 printf 'commands 4\ncommands 4\000\nnormal 1\ncommands 3\nnormal 1\n' | made nul_in_commands \
   "conflicts cleared: 0\n$(corrected 2)\nnormal form: 1\n" \
   "line 2: $nul\nline 3: not answered: after the mistake on line 2 a commands line is awaited\n"
@@ -92,9 +96,9 @@ printf 'commands 4\nnormal 1 \000 2\nnormal 1 2\000\nnormal 3\n' | made nul_in_q
   "line 2: $nul\nline 3: $nul\n"
 printf 'commands 4\nnor\000mal 1\nnormal 1\nconflicts\nnormal\000\nnormal 1\n' | made nul_in_first_word \
   "$(corrected 2)\n" \
-  "line 2: $nul\nline 3: not answered: $(awaited 2)\nline 5: $nul\nline 6: not answered: $(awaited 5)\n"
+  "line 2: $nul\nline 3: not answered: $(awaited 2 1)\nline 5: $nul\nline 6: not answered: $(awaited 5)\n"
 printf 'commands 4\n  \000 conflicts 1-2\nnormal 1\n' | made nul_before_first_word '' \
-  "line 2: $nul\nline 3: not answered: $(awaited 2)\n"
+  "line 2: $nul\nline 3: not answered: $(awaited 2 "1 2")\n"
 printf 'commands 4\n# \000\n  #\000\nnormal 1 # \000\nconflicts# \000\nnormal 1\n' | made nul_in_comment '' \
   "line 2: $nul\nline 3: $nul\nline 4: $nul\nline 5: $nul\nline 6: not answered: $(awaited 5)\n"
 printf 'commands 4\nnormal 1\n\000' | made nul_at_the_end 'normal form: 1\n' "line 3: $nul\n"
@@ -112,7 +116,7 @@ printf 'commands 4\nnormal 1\n\000' | made nul_at_the_end 'normal form: 1\n' "li
 { printf 'commands 4\n'; repeat 1048577 n; printf '\nnormal 2\n'; } |
   made long_first_word '' "line 2: $long\nline 3: not answered: $(awaited 2)\n"
 { printf 'commands 4\n%sconflicts 1-2\nnormal 2\n' "$(blanks 1048576)"; } |
-  made long_blanks '' "line 2: $long\nline 3: not answered: $(awaited 2)\n"
+  made long_blanks '' "line 2: $long\nline 3: not answered: $(awaited 2 "1 2")\n"
 { printf 'commands 4\n# '; repeat 1048577 n; printf '\nnormal 2\n'; } |
   made long_comment 'normal form: 2\n' "line 2: $long\n"
 { printf 'commands 4\nnormal 2\n'; repeat 3000000 n; } | made long_last_line 'normal form: 2\n' "line 3: $long\n"
@@ -265,6 +269,11 @@ for build in $builds; do
   status=0
   "$out/$build" <&- >"$out/printed" 2>"$out/reported" || status=$?
   refuses closed_input "line 1: cannot read standard input"
+  status=0
+  "$out/$build" "$out/short.in" <"$out/short.in" >"$out/printed" 2>"$out/reported" || status=$?
+  if [ "$status" -ne 2 ] || [ -s "$out/printed" ] || ! grep -q 'takes no arguments' "$out/reported"; then
+    fail "an argument is not refused: $build build"
+  fi
 done
 
 # ---- Terminals and pipes
