@@ -1,4 +1,5 @@
-/* busplan: comparing bus plans. C interface of the proved library libbusplan.a; docs/MANUAL.md is its manual.
+/* busplan: comparing bus plans. C interface (C99 or later, C++) of the proved library libbusplan.a; docs/MANUAL.md is
+ * its manual.
  *
  * A catalogue says which commands conflict:
  *   byte 0        N, the number of commands, 0 to 24
@@ -17,7 +18,7 @@
  * threads at once. Areas must not overlap anything else that is handed over. Bytes of an area past those written keep
  * their contents, and a refused call changes no byte of any area.
  *
- * Each byte string is a pointer and a length. An empty string may be a null pointer with length 0.
+ * Each byte string or area is a pointer and a length. An empty one may be a null pointer with length 0.
  *
  * Platform: Linux on x86-64. The archive needs nothing but the C library's memory functions.
  */
@@ -49,7 +50,7 @@ extern "C" {
 #define BUSPLAN_MAX_CHECK_ROOM 50176 /* 1024 + 49152, for either area */
 
 /* The stack that each call needs at the most, in bytes. These are measured (docs/MEASUREMENTS.md) and rounded up, not
- * proved. */
+ * proved. A thread has needs of its own beside them: 16 kB more are enough with glibc. */
 #define BUSPLAN_NORMAL_FORM_STACK 32000
 #define BUSPLAN_CORE_STACK 32000
 #define BUSPLAN_EQUAL_STACK 32000
@@ -58,8 +59,8 @@ extern "C" {
 #define BUSPLAN_FAULT_STACK 8000
 #define BUSPLAN_STACK 300000 /* any of them */
 
-/* Why a call is refused: the first of these that holds, in this order. A call returns minus the number; busplan_fault
- * tells the plan and the place. */
+/* Why a call is refused: the first of these that holds, in this order, but 7 and 8 plan by plan: those of the first plan
+ * come before those of the second. A call returns minus the number; busplan_fault tells the plan and the place. */
 enum busplan_refusal {
     BUSPLAN_CATALOGUE_SIZE = 1, /* catalogue under 2 bytes, or not 2 + N + 2R */
     BUSPLAN_COMMAND_COUNT = 2,  /* N above 24 */
@@ -99,9 +100,9 @@ int64_t busplan_normal_form(const uint8_t *catalogue, size_t catalogue_size,
                             const uint8_t *plan, size_t plan_size,
                             uint8_t *area, size_t area_size);
 
-/* The core of a plan, in normal form: what is left when a command that can come first and its undo that can come last
- * are taken off, until there is no such pair. area: at least BUSPLAN_FORM_ROOM(plan_size) bytes. Returns the length of
- * the core, which stands at the start of it. */
+/* The core of a plan, in normal form: what is left of a shortest plan of the same effect when a command and its undo, in
+ * either order, of which one can come first and the other last, are taken off, until there is no such pair. area: at
+ * least BUSPLAN_FORM_ROOM(plan_size) bytes. Returns the length of the core, which stands at the start of it. */
 int64_t busplan_core(const uint8_t *catalogue, size_t catalogue_size,
                      const uint8_t *plan, size_t plan_size,
                      uint8_t *area, size_t area_size);
@@ -131,9 +132,9 @@ int64_t busplan_lead_in_check(const uint8_t *catalogue, size_t catalogue_size,
                               uint8_t *area1, size_t area1_size);
 
 /* What is wrong with a catalogue and up to three plans, empty where a call has fewer: the first of refusals 1 to 8 that
- * holds, as minus its number, and then fault[0] is the plan (1, 2 or 3 in the order given, 0 for the catalogue) and
- * fault[1] the place in it, counted from 0. Returns 0 if none holds, and fault keeps its contents. v and w may have
- * BUSPLAN_MAX_PLAN bytes, u BUSPLAN_MAX_LEAD_IN. fault must point to two numbers.
+ * holds, in the order above, as minus its number, and then fault[0] is the plan (1, 2 or 3 in the order given, 0 for the
+ * catalogue) and fault[1] the place in it, counted from 0. Returns 0 if none holds, and fault keeps its contents. v and
+ * w may have BUSPLAN_MAX_PLAN bytes, u BUSPLAN_MAX_LEAD_IN. fault must point to two numbers.
  * A call with the same catalogue and plans is refused for just this, and where 0 is returned it is refused for an area
  * alone (9), if at all: so this tells the place of any refusal from 1 to 8. */
 int64_t busplan_fault(const uint8_t *catalogue, size_t catalogue_size,

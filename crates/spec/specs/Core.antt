@@ -1,5 +1,5 @@
--- The core, on plans of bytes (docs/MANUAL.md, "Core and loop"): of a shortest plan, a command that can come first and
--- its own undo able to come last are taken off together, until no such pair is left.
+-- The core, on plans of bytes (docs/MANUAL.md, "Core and loop"): of a shortest plan, a command or an undo that can come
+-- first and its opposite able to come last are taken off together, until no such pair is left.
 use Prim.Native.Nat.{ℕ, _≤_}
 use mathlib.Core.Path.{_≡_}
 use mathlib.Core.Bool.{false}

@@ -11,7 +11,7 @@ use Rattle.spec.specs.declared.Reason.the-variants.{EndlessChain, OwnCha
 use Rattle.spec.specs.declared.Reason.the-variants.{Unsettled, Framing}
 use Rattle.spec.specs.declared.Refusal.{Refusal}
 
--- number, plan and place, as the table's first column has them
+-- number, plan and place, as the table has them
 pub record Line : Type 0 where
   pub number : ℕ
   pub plan : ℕ

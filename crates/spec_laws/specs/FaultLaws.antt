@@ -8,7 +8,7 @@ use native.Mathlib.Omega.{arith}
 use lib.ListN.{length}
 use lib.Dec.{ltb}
 use Rattle.theory_words.specs.All.{All, all-append}
-use Rattle.spec.specs.Table.{Line, line, holds, firstOf, firstLine, FirstHolds}
+use Rattle.spec.specs.Table.{Line, line, holds, firstOf, firstLine}
 use Rattle.spec_laws.specs.TableLaws.{first-early, first-late, first-left, first-holds, none-left}
 use Rattle.spec_laws.specs.TableLaws.{some-same, none-some}
 use Rattle.spec_laws.specs.LineLaws.{UpTo, Numbered, catalogue-up-to, plan-up-to, first-up-to}
