@@ -2,7 +2,8 @@
  *
  * A mistake is reported on standard error with its line number, nothing of its line is taken, and the exit status will
  * be 1. After a mistake in a line that gives, or may have been meant to give, a part of the catalogue, no question is
- * answered until a corrected line has come. A corrected conflicts line names all commands that the bad one names.
+ * answered until a corrected line has come. A corrected conflicts line names all commands that the bad one names and
+ * gives all pairs in it that can be read.
  *
  * Build, after `rt staticlib busplan`, from the repository's root:
  *   gcc -O2 -Iinclude examples/console.c target/staticlib/libbusplan.a -o target/console
@@ -148,6 +149,15 @@ static struct pairs {
 static uint8_t catalogue[BUSPLAN_MAX_CATALOGUE];
 static size_t catalogue_size; /* 0 until a commands line has come */
 
+/* Reads a pair: exactly two numbers and a dash. The smaller command goes to *a. */
+static bool read_pair(struct word word, unsigned *a, unsigned *b) {
+    unsigned x, y;
+    if (!take_number(&word, &x) || !take_dash(&word) || !take_number(&word, &y) || word.size > 0) return false;
+    *a = x < y ? x : y;
+    *b = x < y ? y : x;
+    return *a >= 1 && *a < *b && *b <= commands;
+}
+
 /* Writes the catalogue's bytes: for each command a chain of the larger commands that conflict with it. A record that
  * is there already, with the same command and the same next record, is used again, so chains share their tails.
  * Command b stands in at most b - 1 chains and has at most 2^(24 - b) different tails behind it. The smaller of the
@@ -184,12 +194,13 @@ enum part { COMMANDS, CONFLICTS, NEITHER };
 /* The first bad commands line since a good one, or 0. */
 static unsigned long bad_commands;
 
-/* Lines that were to give conflicts and are not corrected yet, with the commands that each names, as bits. Where there
- * are more, the last one stands for them. */
+/* Lines that were to give conflicts and are not corrected yet, with the commands that each names, as bits, and the pairs
+ * in it that can be read. Where there are more, the last one stands for them. */
 enum { MOST_MISTAKES = 64 };
 static struct mistake {
     unsigned long line;
     uint32_t names;
+    struct pairs pairs;
 } mistakes[MOST_MISTAKES];
 static size_t mistake_count;
 
@@ -215,36 +226,52 @@ static uint32_t named(const char *rest) {
     return names.commands;
 }
 
-/* What a correction must still name of what a bad line names; numbers above N are no commands. */
-static uint32_t missing(const struct mistake *mistake, uint32_t names) {
-    return mistake->names & ~names & ((2u << commands) - 1);
+/* What a correction must name of what a bad line names; numbers above N are no commands. */
+static uint32_t awaited_names(const struct mistake *mistake) { return mistake->names & ((2u << commands) - 1); }
+
+/* Whether a pair of a bad line does not hold. */
+static bool lacks(const struct mistake *mistake, unsigned a, unsigned b) {
+    return mistake->pairs.holds[a][b] && !conflicts.holds[a][b];
 }
 
-/* A line was bad that gives this part and names these commands. */
-static void spoil(enum part part, uint32_t names) {
+static bool lacks_any(const struct mistake *mistake) {
+    for (unsigned a = 1; a <= commands; a++)
+        for (unsigned b = a + 1; b <= commands; b++)
+            if (lacks(mistake, a, b)) return true;
+    return false;
+}
+
+/* A line was bad that gives this part, names these commands and has this text, as far as it can be read. */
+static void spoil(enum part part, uint32_t names, const char *rest) {
+    struct word word;
+    unsigned a, b;
     if (part == COMMANDS && bad_commands == 0) bad_commands = line_number;
     if (part != CONFLICTS) return;
     bool another = mistake_count == 0 || mistakes[mistake_count - 1].line != line_number;
-    if (another && mistake_count < MOST_MISTAKES) mistakes[mistake_count++] = (struct mistake){line_number, 0};
-    mistakes[mistake_count - 1].names |= names;
+    if (another && mistake_count < MOST_MISTAKES) mistakes[mistake_count++] = (struct mistake){.line = line_number};
+    struct mistake *last = &mistakes[mistake_count - 1];
+    last->names |= names;
+    while (next_word(&rest, SEPARATORS, &word))
+        if (read_pair(word, &a, &b)) last->pairs.holds[a][b] = true;
 }
 
 /* As ended, for a line about the catalogue: words with a dash may be pairs. */
 static bool ended_without_pairs(const char *rest) {
     if (ended(rest)) return true;
-    if (strchr(rest, '-')) spoil(CONFLICTS, named(rest));
+    if (strchr(rest, '-')) spoil(CONFLICTS, named(rest), rest);
     return false;
 }
 
-/* A good conflicts line corrects each bad one whose commands it names, so that one more line of a list is not easily
- * taken for a correction. A line with no pair says that what holds is right. */
+/* A good conflicts line corrects each bad one whose commands it names and whose pairs now hold, so that one more line of
+ * a list is not easily taken for a correction. A line with no pair says that what holds is right. */
 static void correct(const char *rest) {
     struct word word;
     bool all = !next_word(&rest, SEPARATORS, &word);
     uint32_t names = all ? 0 : named(word.at);
     size_t left = 0;
     for (size_t i = 0; i < mistake_count; i++) {
-        if (all || missing(&mistakes[i], names) == 0) printf("line %lu counts as corrected\n", mistakes[i].line);
+        bool covered = (awaited_names(&mistakes[i]) & ~names) == 0 && !lacks_any(&mistakes[i]);
+        if (all || covered) printf("line %lu counts as corrected\n", mistakes[i].line);
         else mistakes[left++] = mistakes[i];
     }
     mistake_count = left;
@@ -260,21 +287,31 @@ static void settle(enum part part, const char *rest) {
 
 #define AWAITED "is awaited (conflicts alone keeps what holds)"
 
+/* What a correction of a bad conflicts line must have. */
+static const char *awaited(const struct mistake *mistake) {
+    static char buffer[64 + 3 * BUSPLAN_MAX_COMMANDS + 6 * 276]; /* 276 pairs at the most */
+    uint32_t names = awaited_names(mistake);
+    int size = sprintf(buffer, "%s", names == 0 ? "" : " that names");
+    for (unsigned k = 1; k <= commands; k++)
+        if (names >> k & 1) size += sprintf(buffer + size, " %u", k);
+    if (lacks_any(mistake)) size += sprintf(buffer + size, " and gives");
+    for (unsigned a = 1; a <= commands; a++)
+        for (unsigned b = a + 1; b <= commands; b++)
+            if (lacks(mistake, a, b)) size += sprintf(buffer + size, " %u-%u", a, b);
+    return buffer;
+}
+
 /* Why no question is answered, or NULL. */
 static const char *hindrance(void) {
-    static char buffer[240], names[120];
+    static char buffer[2048];
     if (bad_commands != 0) {
         snprintf(buffer, sizeof buffer, "after the mistake on line %lu a commands line is awaited", bad_commands);
         return buffer;
     }
     if (catalogue_size == 0) return "no commands line has come yet";
     if (mistake_count == 0) return NULL;
-    uint32_t awaited = missing(mistakes, 0);
-    int size = sprintf(names, "%s", awaited == 0 ? "" : " that names");
-    for (unsigned k = 1; k <= commands; k++)
-        if (awaited >> k & 1) size += sprintf(names + size, " %u", k);
     snprintf(buffer, sizeof buffer, "after the mistake on line %lu a conflicts line%s " AWAITED,
-             mistakes->line, names);
+             mistakes->line, awaited(mistakes));
     return buffer;
 }
 
@@ -306,15 +343,6 @@ static bool take_commands(const char *rest) {
     conflicts = (struct pairs){0};
     pack_catalogue();
     return true;
-}
-
-/* Reads a pair: exactly two numbers and a dash. The smaller command goes to *a. */
-static bool read_pair(struct word word, unsigned *a, unsigned *b) {
-    unsigned x, y;
-    if (!take_number(&word, &x) || !take_dash(&word) || !take_number(&word, &y) || word.size > 0) return false;
-    *a = x < y ? x : y;
-    *b = x < y ? y : x;
-    return *a >= 1 && *a < *b && *b <= commands;
 }
 
 static bool take_conflicts(const char *rest) {
@@ -575,11 +603,12 @@ static void obey_line(const char *damage, uint32_t names) {
     bool blank = !next_word(&rest, BLANKS, &word);
     if (damage) complain("nothing of this line is taken: %s", damage);
     else names = named(text);
-    if (damage == inner_cr) spoil(CONFLICTS, names);
+    const char *readable = damage ? "" : text; /* a damaged line may be cut in a number */
+    if (damage == inner_cr) spoil(CONFLICTS, names, readable);
     if (blank && !cut) return;
     const struct verb *verb = cut && *rest == '\0' ? NULL : find_verb(word);
-    if (!verb) spoil(guess(word, damage != NULL), names);
-    else if (damage || !obey_verb(verb, rest)) spoil(verb->part, names);
+    if (!verb) spoil(guess(word, damage != NULL), names, readable);
+    else if (damage || !obey_verb(verb, rest)) spoil(verb->part, names, readable);
     else settle(verb->part, rest);
 }
 
