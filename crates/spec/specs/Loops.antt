@@ -75,14 +75,16 @@ checkLines c v w u area0 area1 =
     ++ areaLine 0 (length v + length u) area0 ∷ areaLine 1 (length u + length w) area1 ∷ []
 
 -- yes if the normal forms of v·u and u·w are the same, with their lengths
-abbrev pub checkAnswer : List ℕ → List ℕ → List ℕ → List ℕ → List ℕ → List ℕ → Answer CheckedLeadIn
-checkAnswer c v w u area0 area1 =
-    orElse (firstLine (checkLines c v w u area0 area1))
-    (record {
+abbrev pub checkResult : List ℕ → List ℕ → List ℕ → List ℕ → CheckedLeadIn
+checkResult c v w u =
+    record {
       yes = alike? (normalForm c (v ++ u)) (normalForm c (u ++ w));
       vu = length (normalForm c (v ++ u));
       uw = length (normalForm c (u ++ w));
-    })
+    }
+
+abbrev pub checkAnswer : List ℕ → List ℕ → List ℕ → List ℕ → List ℕ → List ℕ → Answer CheckedLeadIn
+checkAnswer c v w u area0 area1 = orElse (firstLine (checkLines c v w u area0 area1)) (checkResult c v w u)
 
 abbrev pub checkArea0 : List ℕ → List ℕ → List ℕ → List ℕ → List ℕ → List ℕ → List ℕ
 checkArea0 c v w u area0 area1 =

@@ -31,7 +31,8 @@ use Rattle.spec.specs.Demands.{CatalogueDemand, CoreDemand, FaultDemand, Progra
 use Rattle.spec.specs.Calls.{planLimit, areaLine, areaAfter, normalFormLines, normalFormAnswer, normalFormArea}
 use Rattle.spec.specs.Calls.{catalogueAnswer, catalogueTable, coreForm, coreAnswer, coreArea, equalLines, equalAnswer}
 use Rattle.spec.specs.Answers.{yesNo, CheckedLeadIn}
-use Rattle.spec.specs.Loops.{leadInRoom, loopsLines, Looped, refuses, apart, joined, LeadIn, checkLines, checkAnswer}
+use Rattle.spec.specs.Loops.{leadInRoom, loopsLines, Looped, refuses, apart, joined, LeadIn}
+use Rattle.spec.specs.Loops.{checkLines, checkResult, checkAnswer}
 use Rattle.spec_laws.specs.UnsettledLaws.{never-ten}
 use Rattle.spec.specs.Fault.{faultLines}
 use Rattle.spec_laws.specs.FaultLaws.{catalogue-explained, form-explained, equal-explained, loops-explained}
@@ -206,11 +207,8 @@ check-demand c v w u area0 area1 k e = (
     uw : List ℕ
     uw = normalForm c (u ++ w)
 
-    result : CheckedLeadIn
-    result = record { yes = alike? vu uw; vu = length vu; uw = length uw }
-
-    told : (firstLine (checkLines c v w u area0 area1) ≡ none) × (result ≡ k)
-    told = answer-given (firstLine (checkLines c v w u area0 area1)) result k e
+    told : (firstLine (checkLines c v w u area0 area1) ≡ none) × (checkResult c v w u ≡ k)
+    told = answer-given (firstLine (checkLines c v w u area0 area1)) (checkResult c v w u) k e
 
     pass : (Passing (commands c) v × Passing (commands c) w) × Passing (commands c) u
     pass = check-pass c v w u area0 area1 (told .0)

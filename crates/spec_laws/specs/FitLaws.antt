@@ -5,7 +5,6 @@ use mathlib.Core.List.{List, _++_}
 use mathlib.Core.Option.{Option, none, some}
 use native.Mathlib.Omega.{arith}
 use lib.ListN.{length, drop, length-append}
-use Rattle.theory_words.specs.Alike.{alike?}
 use Rattle.spec.specs.Table.{Line, Answer, given, firstLine, orElse}
 use Rattle.spec_laws.specs.CallLaws.{answer-given}
 use Rattle.spec.specs.Letters.{normalForm}
@@ -15,7 +14,8 @@ use Rattle.spec.specs.declared.Loops.{Loops}
 use Rattle.spec.specs.declared.Loops.the-variants.{Joined}
 use Rattle.spec.specs.Answers.{toldWritten, toldLoops, CheckedLeadIn}
 use Rattle.spec.specs.Calls.{areaAfter, normalFormLines, normalFormAnswer, normalFormArea, coreForm, coreAnswer, coreArea}
-use Rattle.spec.specs.Loops.{Looped, refuses, apart, joined, checkLines, checkAnswer, checkArea0, checkArea1}
+use Rattle.spec.specs.Loops.{Looped, refuses, apart, joined}
+use Rattle.spec.specs.Loops.{checkLines, checkResult, checkAnswer, checkArea0, checkArea1}
 
 -- bytes that stand at the start of a list
 at-start : (z rest after : List ℕ) → after ≡ z ++ rest → length z ≤ length after
@@ -57,19 +57,8 @@ module _ (c v w u area0 area1 : List ℕ) {after0 after1 : List ℕ} (k : Checke
   pub check-fits : checkAnswer c v w u area0 area1 ≡ given k → after0 ≡ checkArea0 c v w u area0 area1
       → after1 ≡ checkArea1 c v w u area0 area1 → (k .vu ≤ length after0) × (k .uw ≤ length after1)
   check-fits e b0 b1 =
-      let (n, same) = answer-given o result k e in (
-        omega (arith, ap (λ x. x .vu) same, after-fits o vu area0 after0 n b0),
-        omega (arith, ap (λ x. x .uw) same, after-fits o uw area1 after1 n b1),
+      let o = firstLine (checkLines c v w u area0 area1) in
+      let (n, same) = answer-given o (checkResult c v w u) k e in (
+        omega (arith, ap (λ x. x .vu) same, after-fits o (normalForm c (v ++ u)) area0 after0 n b0),
+        omega (arith, ap (λ x. x .uw) same, after-fits o (normalForm c (u ++ w)) area1 after1 n b1),
       )
-    where
-      o : Option Line
-      o = firstLine (checkLines c v w u area0 area1)
-
-      vu : List ℕ
-      vu = normalForm c (v ++ u)
-
-      uw : List ℕ
-      uw = normalForm c (u ++ w)
-
-      result : CheckedLeadIn
-      result = record { yes = alike? vu uw; vu = length vu; uw = length uw }
