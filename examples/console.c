@@ -2,8 +2,8 @@
  *
  * A mistake is reported on standard error with its line number, nothing of its line is taken, and the exit status will
  * be 1. After a mistake in a line that gives, or may have been meant to give, a part of the catalogue, no question is
- * answered until a corrected line has come. A corrected conflicts line names all commands that the bad one names and
- * gives all pairs in it that can be read.
+ * answered until a corrected line has come: a good commands line, or a good conflicts line that names all commands that
+ * the bad one names and after which all pairs hold that can be read in it.
  *
  * Build, after `rt staticlib busplan`, from the repository's root:
  *   gcc -O2 -Iinclude examples/console.c target/staticlib/libbusplan.a -o target/console
@@ -22,6 +22,7 @@
 static const char help_text[] =
     "commands 4              the number of commands, 0 to 24; comes first, and clears the conflicts\n"
     "conflicts 1-2, 2-3 3-4  pairs that conflict (all others may swap), added to those given before\n"
+    "conflicts               after a mistake, says that what holds is right\n"
     "catalogue               shows what holds: the pairs, and the catalogue's bytes in hexadecimal\n"
     "normal 1 3 -1           the normal form of a plan; -1 undoes 1, and 0 is a filler\n"
     "core 1 2 -1             the core of a plan\n"
@@ -30,7 +31,8 @@ static const char help_text[] =
     "check 1 2 / 2 1 / 1     is the third plan a lead-in from the first loop to the second?\n"
     "help                    prints this list\n"
     "quit                    ends the console, as the end of the input does\n"
-    "Blanks and commas separate numbers and pairs; blanks stand around /; # starts a comment.\n";
+    "Blanks and commas separate numbers and pairs; blanks stand around /; # starts a comment.\n"
+    "A number has no leading zero, and a pair is two numbers and a dash.\n";
 
 #define BLANKS " \t"
 #define SEPARATORS " \t,"
@@ -46,7 +48,7 @@ static char text[MOST_LINE + 1];
 static unsigned long line_number;
 
 static int status = EXIT_SUCCESS;
-static bool done;
+static bool done, terminal;
 
 /* ---- Messages */
 
@@ -149,13 +151,13 @@ static struct pairs {
 static uint8_t catalogue[BUSPLAN_MAX_CATALOGUE];
 static size_t catalogue_size; /* 0 until a commands line has come */
 
-/* Reads a pair: exactly two numbers and a dash. The smaller command goes to *a. */
-static bool read_pair(struct word word, unsigned *a, unsigned *b) {
+/* Reads a pair of commands up to most: exactly two numbers and a dash. The smaller command goes to *a. */
+static bool read_pair(struct word word, unsigned most, unsigned *a, unsigned *b) {
     unsigned x, y;
     if (!take_number(&word, &x) || !take_dash(&word) || !take_number(&word, &y) || word.size > 0) return false;
     *a = x < y ? x : y;
     *b = x < y ? y : x;
-    return *a >= 1 && *a < *b && *b <= commands;
+    return *a >= 1 && *a < *b && *b <= most;
 }
 
 /* Writes the catalogue's bytes: for each command a chain of the larger commands that conflict with it. A record that
@@ -194,8 +196,8 @@ enum part { COMMANDS, CONFLICTS, NEITHER };
 /* The first bad commands line since a good one, or 0. */
 static unsigned long bad_commands;
 
-/* Lines that were to give conflicts and are not corrected yet, with the commands that each names, as bits, and the pairs
- * in it that can be read. Where there are more, the last one stands for them. */
+/* Lines that were to give conflicts and are not corrected yet, with the commands that each names, as bits, and the
+ * pairs in it that can be read. Where there are more, the last one stands for them. */
 enum { MOST_MISTAKES = 64 };
 static struct mistake {
     unsigned long line;
@@ -219,11 +221,25 @@ static void gather(struct names *names, int c) {
     names->number = 0;
 }
 
-static uint32_t named(const char *rest) {
+static uint32_t named(struct word word) {
     struct names names = {0, 0};
-    do gather(&names, *rest);
-    while (*rest++ != '\0');
+    for (size_t i = 0; i < word.size; i++) gather(&names, word.at[i]);
+    gather(&names, '\n');
     return names.commands;
+}
+
+static struct word whole(const char *rest) { return (struct word){rest, strlen(rest)}; }
+
+/* The commands in words that begin as pairs do: in a line that is not for pairs they may be some all the same. */
+static uint32_t named_in_pairs(const char *rest) {
+    struct word word;
+    uint32_t names = 0;
+    while (next_word(&rest, SEPARATORS, &word)) {
+        struct word left = word;
+        unsigned number;
+        if (take_number(&left, &number) && take_dash(&left) && take_number(&left, &number)) names |= named(word);
+    }
+    return names;
 }
 
 /* What a correction must name of what a bad line names; numbers above N are no commands. */
@@ -241,33 +257,32 @@ static bool lacks_any(const struct mistake *mistake) {
     return false;
 }
 
-/* A line was bad that gives this part, names these commands and has this text, as far as it can be read. */
-static void spoil(enum part part, uint32_t names, const char *rest) {
+/* A line was bad that was to give conflicts, names these commands and has this text, as far as it can be read. */
+static void spoil_conflicts(uint32_t names, const char *rest) {
     struct word word;
     unsigned a, b;
-    if (part == COMMANDS && bad_commands == 0) bad_commands = line_number;
-    if (part != CONFLICTS) return;
     bool another = mistake_count == 0 || mistakes[mistake_count - 1].line != line_number;
     if (another && mistake_count < MOST_MISTAKES) mistakes[mistake_count++] = (struct mistake){.line = line_number};
     struct mistake *last = &mistakes[mistake_count - 1];
     last->names |= names;
     while (next_word(&rest, SEPARATORS, &word))
-        if (read_pair(word, &a, &b)) last->pairs.holds[a][b] = true;
+        if (read_pair(word, BUSPLAN_MAX_COMMANDS, &a, &b)) last->pairs.holds[a][b] = true;
 }
 
-/* As ended, for a line about the catalogue: words with a dash may be pairs. */
-static bool ended_without_pairs(const char *rest) {
-    if (ended(rest)) return true;
-    if (strchr(rest, '-')) spoil(CONFLICTS, named(rest), rest);
-    return false;
+/* A line was bad that gives this part. */
+static void spoil(enum part part, uint32_t names, const char *rest) {
+    if (part == CONFLICTS) spoil_conflicts(names, rest);
+    if (part != COMMANDS) return;
+    if (bad_commands == 0) bad_commands = line_number;
+    if (named_in_pairs(rest) != 0) spoil_conflicts(named_in_pairs(rest), rest);
 }
 
-/* A good conflicts line corrects each bad one whose commands it names and whose pairs now hold, so that one more line of
- * a list is not easily taken for a correction. A line with no pair says that what holds is right. */
+/* A good conflicts line corrects each bad one whose commands it names and whose pairs now hold, so that one more line
+ * of a list is not easily taken for a correction. A line with no pair says that what holds is right. */
 static void correct(const char *rest) {
     struct word word;
     bool all = !next_word(&rest, SEPARATORS, &word);
-    uint32_t names = all ? 0 : named(word.at);
+    uint32_t names = all ? 0 : named(whole(word.at));
     size_t left = 0;
     for (size_t i = 0; i < mistake_count; i++) {
         bool covered = (awaited_names(&mistakes[i]) & ~names) == 0 && !lacks_any(&mistakes[i]);
@@ -275,14 +290,6 @@ static void correct(const char *rest) {
         else mistakes[left++] = mistakes[i];
     }
     mistake_count = left;
-}
-
-/* A good line has come. */
-static void settle(enum part part, const char *rest) {
-    if (part == CONFLICTS) correct(rest);
-    if (part != COMMANDS || bad_commands == 0) return;
-    printf("line %lu counts as corrected\n", bad_commands);
-    bad_commands = 0;
 }
 
 #define AWAITED "is awaited (conflicts alone keeps what holds)"
@@ -315,6 +322,16 @@ static const char *hindrance(void) {
     return buffer;
 }
 
+/* A good line has come. */
+static void settle(enum part part, const char *rest) {
+    if (part == COMMANDS && bad_commands != 0) {
+        printf("line %lu counts as corrected\n", bad_commands);
+        bad_commands = 0;
+    }
+    if (part == CONFLICTS) correct(rest);
+    if (part != NEITHER && hindrance()) printf("no question is answered: %s\n", hindrance());
+}
+
 /* ---- Lines that give and show the catalogue */
 
 /* Counts the pairs, and prints each behind a blank if wanted. */
@@ -337,7 +354,7 @@ static bool take_commands(const char *rest) {
     struct word left = word;
     if (!take_number(&left, &number) || left.size > 0 || number > BUSPLAN_MAX_COMMANDS)
         return complain("not a number of commands, 0 to 24: %s", shown(word));
-    if (!ended_without_pairs(rest)) return false;
+    if (!ended(rest)) return false;
     if (catalogue_size > 0) printf("conflicts cleared: %u\n", count_pairs(false));
     commands = number;
     conflicts = (struct pairs){0};
@@ -351,7 +368,7 @@ static bool take_conflicts(const char *rest) {
     unsigned a, b;
     if (catalogue_size == 0 || bad_commands != 0) return complain("conflicts before a good commands line");
     while (next_word(&rest, SEPARATORS, &word)) {
-        if (!read_pair(word, &a, &b))
+        if (!read_pair(word, commands, &a, &b))
             return complain("not a pair of two different commands from 1 to %u: %s", commands, shown(word));
         taken.holds[a][b] = true;
     }
@@ -363,7 +380,10 @@ static bool take_conflicts(const char *rest) {
 /* Shows a catalogue only if the library takes it. */
 static bool show_catalogue(const char *rest) {
     uint64_t fault[2];
-    if (!ended_without_pairs(rest)) return false;
+    if (!ended(rest)) {
+        if (named_in_pairs(rest) != 0) spoil_conflicts(named_in_pairs(rest), rest);
+        return false;
+    }
     if (catalogue_size > 0) {
         int64_t answer = busplan_fault(catalogue, catalogue_size, NULL, 0, NULL, 0, NULL, 0, fault);
         if (answer < 0) return complain("%s", busplan_refusal_text(answer));
@@ -555,78 +575,91 @@ static bool obey_verb(const struct verb *verb, const char *rest) {
     return answer >= 0 || explain(answer, verb->plans, rest);
 }
 
-static const char nul_byte[] = "a NUL byte", inner_cr[] = "a CR that is not at its end";
+/* What makes a line as a whole a mistake. */
+enum damage { NONE, NUL_BYTE, INNER_CR, TOO_LONG };
 
-/* Reads the next line to its end, however long it is; false at the end of the input. What makes the line as a whole a
- * mistake goes to *damage, or NULL, and the commands that it names to *names, also where they are not kept. */
-static bool read_line(bool terminal, const char **damage, uint32_t *names) {
+static const char *told(enum damage damage) {
+    static const char *const texts[] = {"", "a NUL byte", "a CR that is not at its end", "over 1,048,576 bytes"};
+    return damage == TOO_LONG && terminal ? "over 4,094 bytes, and a terminal may have cut it" : texts[damage];
+}
+
+/* Reads the next line to its end, however long it is; false at the end of the input. The commands that it names go to
+ * *names, also where they are not kept. A NUL byte is kept as a newline, which no word of a good line has. */
+static bool read_line(enum damage *damage, uint32_t *names) {
     size_t size = 0, most = terminal ? MOST_TERMINAL_LINE : MOST_LINE;
     struct names gathered = {0, 0};
-    bool cr = false;
     int c;
     line_number++;
-    *damage = NULL;
+    *damage = NONE;
     while ((c = getchar()) != EOF && c != '\n') {
         gather(&gathered, c);
-        if (*damage) continue;
-        if (cr) *damage = inner_cr;
-        else if (c == '\0') *damage = nul_byte;
-        else if (size < most) text[size++] = (char)c;
-        else *damage = terminal ? "over 4,094 bytes, and a terminal may have cut it" : "over 1,048,576 bytes";
-        cr = c == '\r';
+        if (*damage == NONE && c == '\0') *damage = NUL_BYTE;
+        if (size > 0 && text[size - 1] == '\r' && c != '\r') *damage = INNER_CR;
+        if (size == most) *damage = TOO_LONG;
+        else text[size++] = c == '\0' ? '\n' : (char)c;
     }
     gather(&gathered, '\n');
     *names = gathered.commands;
-    if (size > 0 && text[size - 1] == '\r') size--;
+    while (size > 0 && text[size - 1] == '\r') size--;
     text[size] = '\0';
-    return !ferror(stdin) && (c != EOF || size > 0 || *damage);
+    return !ferror(stdin) && (c != EOF || size > 0 || *damage != NONE);
+}
+
+/* Whether an unknown word may have been meant for commands: a word that is one letter away shares two of these. */
+static bool like_commands(struct word word) {
+    static const char *const threes[] = {"com", "omm", "mma", "man", "and", "nds"};
+    unsigned shared = 0;
+    for (size_t i = 0; i + 3 <= word.size; i++)
+        for (size_t k = 0; k < sizeof threes / sizeof *threes; k++)
+            if (strncasecmp(word.at + i, threes[k], 3) == 0) shared++;
+    return shared >= 2;
 }
 
 /* Says that a first word is unknown, and which part of the catalogue its line may have been meant to give. */
-static enum part guess(struct word word, bool damaged) {
-    bool counts = false;
-    for (size_t i = 0; i + 3 <= word.size; i++) counts |= strncasecmp(word.at + i, "com", 3) == 0;
-    if (!damaged)
+static enum part guess(struct word word, enum damage damage) {
+    bool counts = like_commands(word);
+    if (damage == NONE)
         complain("unknown word, perhaps meant for the catalogue, so a %s: %s",
                  counts ? "commands line is awaited" : "conflicts line " AWAITED, shown(word));
     return counts ? COMMANDS : CONFLICTS;
 }
 
 /* Obeys a line. A damaged one is a mistake of the kind that its first word says, if that word is whole; behind a CR
- * there may be further lines. */
-static void obey_line(const char *damage, uint32_t names) {
-    size_t end = strcspn(text, "#");
-    bool cut = damage && text[end] == '\0';
-    text[end] = '\0';
+ * there may be further lines, also in a comment. What is kept of a line that is too long may end within a number. */
+static void obey_line(enum damage damage, uint32_t names) {
     const char *rest = text;
     struct word word;
-    bool blank = !next_word(&rest, BLANKS, &word);
-    if (damage) complain("nothing of this line is taken: %s", damage);
-    else names = named(text);
-    const char *readable = damage ? "" : text; /* a damaged line may be cut in a number */
-    if (damage == inner_cr) spoil(CONFLICTS, names, readable);
-    if (blank && !cut) return;
+    if (damage != NONE) complain("nothing of this line is taken: %s", told(damage));
+    for (char *cr = text; (cr = strchr(cr, '\r')); ) *cr = ' ';
+    if (damage == INNER_CR) spoil_conflicts(names, text);
+    size_t end = strcspn(text, "#");
+    bool cut = damage == TOO_LONG && text[end] == '\0';
+    text[end] = '\0';
+    if (!next_word(&rest, BLANKS, &word) && !cut) return;
+    if (damage == NONE || damage == NUL_BYTE) names = named(whole(text));
     const struct verb *verb = cut && *rest == '\0' ? NULL : find_verb(word);
-    if (!verb) spoil(guess(word, damage != NULL), names, readable);
-    else if (damage || !obey_verb(verb, rest)) spoil(verb->part, names, readable);
+    const char *readable = damage == TOO_LONG ? "" : text;
+    if (!verb) spoil(guess(word, damage), names, readable);
+    else if (damage != NONE || !obey_verb(verb, rest)) spoil(verb->part, names, readable);
     else settle(verb->part, rest);
 }
 
 int main(int count, char **arguments) {
-    bool terminal = isatty(STDIN_FILENO), prompt = terminal && isatty(STDOUT_FILENO);
-    const char *damage;
+    enum damage damage;
     uint32_t names;
     if (count > 1) {
         fprintf(stderr, "%s reads standard input and takes no arguments: %s <FILE\n", arguments[0], arguments[0]);
         return 2;
     }
+    terminal = isatty(STDIN_FILENO);
+    bool prompt = terminal && isatty(STDOUT_FILENO);
     for (;;) {
         if (prompt && !done) fputs("> ", stdout);
         if (fflush(stdout) != 0 || ferror(stdout)) {
             complain("cannot write standard output");
             break;
         }
-        if (done || !read_line(terminal, &damage, &names)) break;
+        if (done || !read_line(&damage, &names)) break;
         obey_line(damage, names);
     }
     if (ferror(stdin)) complain("cannot read standard input");

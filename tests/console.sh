@@ -59,7 +59,7 @@ blanks() { # N
   printf "%$1s" ''
 }
 
-awaited() { # LINE [COMMANDS]
+awaited() { # LINE [COMMANDS [and gives PAIRS]]
   echo "after the mistake on line $1 a conflicts line${2:+ that names $2} is awaited (conflicts alone keeps what holds)"
 }
 
@@ -80,15 +80,18 @@ printf 'commands 4\r\nconflicts 1-2\r\n\r\nnormal 1 2 -1\r\nnormal\r\nequal 1 / 
 printf 'commands 4\r\nnormal 1\r' | made cr_at_the_end 'normal form: 1\n' ''
 printf 'commands 4\rconflicts 1-2\rnormal 1 2 -1\r' | made cr_alone '' "line 1: $cr\n"
 printf 'commands 4\nconflicts 1-2\r 2-3\nnormal 1\n' | made cr_between '' \
-  "line 2: $cr\nline 3: not answered: $(awaited 2 "1 2 3")\n"
-printf 'commands 4\nconflicts 1-2 # x\rconflicts 3-4\nnormal 1\nconflicts 1-2 3-4\nnormal 3 4 -3\n' | made cr_in_comment \
-  "$(corrected 2)\nnormal form: 3 4 -3\n" "line 2: $cr\nline 3: not answered: $(awaited 2 "1 2 3 4")\n"
-printf '# 4\rconflicts 1-2\r\ncommands 3\nnormal 1 2 -1\n' | made cr_before_conflicts '' \
-  "line 1: $cr\nline 3: not answered: $(awaited 1 "1 2")\n"
+  "line 2: $cr\nline 3: not answered: $(awaited 2 "1 2 3 and gives 1-2 2-3")\n"
+printf 'commands 4\nconflicts 1-2 # x\rconflicts 3-4\nnormal 1\nconflicts 1-2 3-4\nnormal 3 4 -3\n' |
+  made cr_in_comment "$(corrected 2)\nnormal form: 3 4 -3\n" \
+  "line 2: $cr\nline 3: not answered: $(awaited 2 "1 2 3 4 and gives 1-2 3-4")\n"
+printf '# 4\rconflicts 1-2\r\ncommands 3\nnormal 1 2 -1\n' | made cr_before_conflicts \
+  "no question is answered: $(awaited 1 "1 2 and gives 1-2")\n" \
+  "line 1: $cr\nline 3: not answered: $(awaited 1 "1 2 and gives 1-2")\n"
+printf 'commands 4\r\r\nconflicts 1-2\r\r\nnormal 1 2 -1\r\r' | made cr_twice 'normal form: 1 2 -1\n' ''
 
 # NUL bytes.
 printf 'commands 4\nconflicts 1-2\000 2-3\nnormal 2 3 -2\nconflicts 1-2 2-3\nnormal 2 3 -2\n' | made nul_in_conflicts \
-  "$(corrected 2)\nnormal form: 2 3 -2\n" "line 2: $nul\nline 3: not answered: $(awaited 2 "1 2 3")\n"
+  "$(corrected 2)\nnormal form: 2 3 -2\n" "line 2: $nul\nline 3: not answered: $(awaited 2 "1 2 3 and gives 2-3")\n"
 printf 'commands 4\ncommands 4\000\nnormal 1\ncommands 3\nnormal 1\n' | made nul_in_commands \
   "conflicts cleared: 0\n$(corrected 2)\nnormal form: 1\n" \
   "line 2: $nul\nline 3: not answered: after the mistake on line 2 a commands line is awaited\n"
@@ -98,7 +101,7 @@ printf 'commands 4\nnor\000mal 1\nnormal 1\nconflicts\nnormal\000\nnormal 1\n' |
   "$(corrected 2)\n" \
   "line 2: $nul\nline 3: not answered: $(awaited 2 1)\nline 5: $nul\nline 6: not answered: $(awaited 5)\n"
 printf 'commands 4\n  \000 conflicts 1-2\nnormal 1\n' | made nul_before_first_word '' \
-  "line 2: $nul\nline 3: not answered: $(awaited 2 "1 2")\n"
+  "line 2: $nul\nline 3: not answered: $(awaited 2 "1 2 and gives 1-2")\n"
 printf 'commands 4\n# \000\n  #\000\nnormal 1 # \000\nconflicts# \000\nnormal 1\n' | made nul_in_comment '' \
   "line 2: $nul\nline 3: $nul\nline 4: $nul\nline 5: $nul\nline 6: not answered: $(awaited 5)\n"
 printf 'commands 4\nnormal 1\n\000' | made nul_at_the_end 'normal form: 1\n' "line 3: $nul\n"
