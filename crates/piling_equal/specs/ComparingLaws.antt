@@ -25,7 +25,8 @@ use Rattle.input_plan.specs.Lettered.{Lettered}
 use Rattle.spec_laws.specs.PlanLaws.{passing-at}
 use Rattle.piling_stacks.specs.Piling.{Piled, Counted}
 use Rattle.piling_stacks.specs.Push.{Facing}
-use Rattle.piling_stacks.specs.PileLaws.{passes-range, facing-at, more-filler, more-letter}
+use Rattle.spec_laws.specs.LettersLaws.{more-filler, more-letter}
+use Rattle.piling_stacks.specs.PileLaws.{passes-range, facing-at}
 use Rattle.piling_equal.specs.Comparing.{undoneBy, undoneBy-step, Undoable, Undone, Opposed}
 
 pub tells-not : {P : Type 0} → (P → ⊥) → (false ≡ true) ↔ P

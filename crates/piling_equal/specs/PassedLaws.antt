@@ -1,13 +1,12 @@
 -- A plan that has passed can be piled up, and the word that is then piled.
 use Prim.Native.Nat.{ℕ}
-use mathlib.Core.Path.{_≡_, sym, subst, subst₂}
-use mathlib.Core.List.{List, [], reverse, reverse-reverse}
+use mathlib.Core.Path.{_≡_, sym, subst₂}
+use mathlib.Core.List.{List, [], reverse}
 use mathlib.Core.Bool.{true}
 use native.Mathlib.Omega.{arith}
 use Rattle.theory_words.specs.All.{All, all-map, all-reverse}
 use Rattle.theory_words.specs.Group as Group
-use Rattle.theory_words.specs.GroupLaws.{≈-reverse}
-use Rattle.theory_words.specs.ReduceLaws.{reduce-≈}
+use Rattle.theory_words.specs.ReduceLaws.{reduce-back-≈}
 use Rattle.theory_words.specs.LetterLaws.{all-reduce}
 use Rattle.spec.specs.Catalogue.{commands}
 use Rattle.spec.specs.Plan.{isCommand}
@@ -51,6 +50,4 @@ module _ (c v : List ℕ) where
   _≈_ = Group._≈_ (alphabet c)
 
   pub reduced-word : reverse (reduced c v) ≈ letters v
-  reduced-word =
-      subst (λ x. reverse (reduced c v) ≈ x) (reverse-reverse (letters v))
-      (≈-reverse (alphabet c) (reduce-≈ (alphabet c) (reverse (letters v))))
+  reduced-word = reduce-back-≈ (alphabet c) (letters v)

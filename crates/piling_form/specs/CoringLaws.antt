@@ -5,9 +5,7 @@ use mathlib.Core.Bool.{Bool, true}
 use mathlib.Core.List.{List, reverse}
 use native.Mathlib.Omega.{arith}
 use lib.ListN.{length, length-reverse}
-use Rattle.theory_words.specs.ReduceLaws.{reduce-reduced, reduced-reverse, reduced-~, reduce-≈}
-use Rattle.theory_words.specs.Group.{Reduced, then, back}
-use Rattle.theory_words.specs.Reduce.{reduce}
+use Rattle.theory_words.specs.ReduceLaws.{reduce-back-reduced, reduce-back-~}
 use Rattle.theory_words.specs.TraceLaws.{~-length}
 use Rattle.theory_words.specs.Normal.{lex}
 use Rattle.theory_words.specs.NormalLaws.{lex-~, lex-sorts, sorts-nf}
@@ -50,17 +48,12 @@ module _ {c : List ℕ} {conflicts : List (List ℕ)} {plan : List ℕ} (p : Pas
       }
 
 module _ (c plan : List ℕ) where
-  -- the word piled up is reduced
-  reverse-reduced : Reduced (alphabet c) (reverse (reduced c plan))
-  reverse-reduced =
-      reduced-reverse (alphabet c) (reduced c plan) (reduce-reduced (alphabet c) (reverse (letters plan)))
-
   -- read off whole, it is the normal form
   read-normal : lex (alphabet c) (length (reverse (reduced c plan))) (reverse (reduced c plan)) ≡ normalForm c plan
   unfolding normalForm
   read-normal =
       sorts-nf (alphabet c) (lex-sorts (alphabet c) (length (reverse (reduced c plan))) (reverse (reduced c plan)) refl)
-      reverse-reduced (reduced-word c plan)
+      (reduce-back-reduced (alphabet c) (letters plan)) (reduced-word c plan)
 
 module _ {c plan : List ℕ} {rows : List (List ℕ)} {lead heights at lead′ : List ℕ} {m : ℕ} {z : List ℕ}
     (q : Peeled c rows (reverse (reduced c plan)) lead heights at lead′ m z) where
@@ -68,10 +61,8 @@ module _ {c plan : List ℕ} {rows : List (List ℕ)} {lead heights at lead′ :
       → CoreOf c plan area lead area′ lead′ n m
   unfolding coreForm
   peeled-core-of l o =
-      let d = reverse-reduced c plan in
-      let s = reduced-~ (alphabet c) (reverse (reduced c plan)) (reduce (alphabet c) (letters plan)) d
-      (reduce-reduced (alphabet c) (letters plan))
-      (then (reduced-word c plan) (back (reduce-≈ (alphabet c) (letters plan)))) in
+      let d = reduce-back-reduced (alphabet c) (letters plan) in
+      let s = reduce-back-~ (alphabet c) (letters plan) in
       record {
         form = rw (peeled-normal q d (letters plan) (reduced-word c plan)) at o;
         off = peeled-core q d (letters plan) (reduced-word c plan) .1;

@@ -1,13 +1,12 @@
 -- Laws of the loop that piles a plan byte by byte.
 use Prim.Native.Nat.{ℕ, _+_, _-_, _≤_, _<_}
 use native.Mathlib.Omega.{arith}
-use native.Mathlib.Numerals.{add-one}
 use mathlib.Core.Bool.{true}
-use mathlib.Core.Path.{_≡_, refl, _∙_, ap}
-use mathlib.Core.List.{List, [], _∷_, _++_, reverse, reverse-append, append-nil}
+use mathlib.Core.Path.{_≡_, refl, ap}
+use mathlib.Core.List.{List, [], reverse}
 use lib.ListN.{length, getD, take, length-reverse, length-take}
-use lib.Seq.{take-suc, take-all}
-use borrow.Author.Tests.{eq-eqb, ne-eqb}
+use lib.Seq.{take-all}
+use borrow.Author.Tests.{ne-eqb}
 use Rattle.theory_words.specs.Filter.{filter}
 use Rattle.theory_words.specs.Reduce.{act, reduce}
 use Rattle.theory_words.specs.ReduceLaws.{reduce-length}
@@ -19,7 +18,7 @@ use Rattle.spec.specs.Letters.{alphabet, letters}
 use Rattle.input_plan.specs.Lettered.{Lettered}
 use Rattle.spec_laws.specs.PlanLaws.{passing-at}
 use Rattle.spec_laws.specs.CommandLaws.{passes-command, command-range}
-use Rattle.spec_laws.specs.LettersLaws.{letters-append, letters-filler, letters-letter, letters-length}
+use Rattle.spec_laws.specs.LettersLaws.{letters-length, more-filler, more-letter}
 use Rattle.piling_stacks.specs.Piling.{Piled, Counted}
 use Rattle.piling_stacks.specs.Push.{Facing, Ready}
 use Rattle.piling_stacks.specs.Pile.{Given, reduced}
@@ -27,26 +26,6 @@ use Rattle.piling_stacks.specs.Pile.{Given, reduced}
 pub reduced-length : (c v : List ℕ) → length (reduced c v) ≤ length v
 reduced-length c v =
     omega (arith, reduce-length (alphabet c) (reverse (letters v)), length-reverse (letters v), letters-length v)
-
--- one byte more: a plan's word backwards is as it was, or has the byte before it
-module _ (v : List ℕ) (i : ℕ) (l : i < length v) where
-  letters-more : letters (take (i + 1) v) ≡ letters (take i v) ++ letters (getD v i 0 ∷ [])
-  letters-more = rw add-one (ap letters (take-suc v i 0 l) ∙ letters-append (take i v) (getD v i 0 ∷ []))
-
-  pub more-filler : getD v i 0 ≡ 0 → reverse (letters (take (i + 1) v)) ≡ reverse (letters (take i v))
-  unfolding letters filter
-  more-filler e =
-      rw (letters-more, letters-filler (getD v i 0) [] (eq-eqb (getD v i 0) 0 e), append-nil (letters (take i v)))
-
-  pub more-letter : ¬ (getD v i 0 ≡ 0)
-      → reverse (letters (take (i + 1) v)) ≡ getD v i 0 ∷ reverse (letters (take i v))
-  unfolding letters filter
-  more-letter n =
-      rw (
-        letters-more,
-        letters-letter (getD v i 0) [] (ne-eqb (getD v i 0) 0 n),
-        reverse-append (letters (take i v)) (getD v i 0 ∷ []),
-      )
 
 module _ (c v : List ℕ) (i : ℕ) (l : i < length v) where
   reduced-filler : getD v i 0 ≡ 0 → reduced c (take (i + 1) v) ≡ reduced c (take i v)

@@ -1,12 +1,14 @@
 -- Laws of a plan's word: products, undoing and length, and that its letters are commands if the plan passes.
-use Prim.Native.Nat.{ℕ, _≤_}
+use Prim.Native.Nat.{ℕ, _+_, _≤_, _<_}
 use mathlib.Core.Path.{_≡_, sym, _∙_, ap}
 use mathlib.Core.Bool.{Bool, true, false, not}
-use mathlib.Core.List.{List, [], _∷_, _++_}
+use mathlib.Core.List.{List, [], _∷_, _++_, reverse, reverse-append, append-nil}
 use native.Mathlib.Omega.{arith}
-use lib.ListN.{length}
+use native.Mathlib.Numerals.{add-one}
+use lib.ListN.{length, getD, take}
+use lib.Seq.{take-suc}
 use lib.Dec.{eqb}
-use borrow.Author.Tests.{eqb-true, eq-eqb, not-true}
+use borrow.Author.Tests.{eqb-true, eq-eqb, ne-eqb, not-true}
 use Rattle.theory_words.specs.BoolLaws.{true-same}
 use Rattle.theory_words.specs.All.{All, all-map}
 use Rattle.theory_words.specs.Group.{undoBy}
@@ -74,3 +76,23 @@ filler-undone b = true-same _ _ (λ e. ap (λ a. eqb a 0) (sym (undone-undone b)
 pub letters-undone : (u v : List ℕ) → letters (undoBy undone u v) ≡ undoBy undone (letters u) (letters v)
 unfolding letters
 letters-undone u v = filter-undo letter? undone (λ b. ap not (filler-undone b)) u v
+
+-- one byte more: a plan's word backwards is as it was, or has the byte before it
+module _ (v : List ℕ) (i : ℕ) (l : i < length v) where
+  letters-more : letters (take (i + 1) v) ≡ letters (take i v) ++ letters (getD v i 0 ∷ [])
+  letters-more = rw add-one (ap letters (take-suc v i 0 l) ∙ letters-append (take i v) (getD v i 0 ∷ []))
+
+  pub more-filler : getD v i 0 ≡ 0 → reverse (letters (take (i + 1) v)) ≡ reverse (letters (take i v))
+  unfolding letters filter
+  more-filler e =
+      rw (letters-more, letters-filler (getD v i 0) [] (eq-eqb (getD v i 0) 0 e), append-nil (letters (take i v)))
+
+  pub more-letter : ¬ (getD v i 0 ≡ 0)
+      → reverse (letters (take (i + 1) v)) ≡ getD v i 0 ∷ reverse (letters (take i v))
+  unfolding letters filter
+  more-letter n =
+      rw (
+        letters-more,
+        letters-letter (getD v i 0) [] (ne-eqb (getD v i 0) 0 n),
+        reverse-append (letters (take i v)) (getD v i 0 ∷ []),
+      )

@@ -260,6 +260,18 @@ module _ (Γ : Alphabet) where
   reduced-reverse w r =
       reduced-mirror reverse (λ x y e. ≈-reverse Γ e) (λ x. length-reverse x) (λ x. reverse-reverse x) w r
 
+  -- a word reduced from its other end: it has the word's effect, and differs from what reduction gives by swaps
+  pub reduce-back-≈ : (w : Word Γ) → reverse (reduce Γ (reverse w)) ≈ w
+  reduce-back-≈ w = subst (λ (x : Word Γ). reverse (reduce Γ (reverse w)) ≈ x) (reverse-reverse w)
+      (≈-reverse Γ (reduce-≈ (reverse w)))
+
+  pub reduce-back-reduced : (w : Word Γ) → Reduced Γ (reverse (reduce Γ (reverse w)))
+  reduce-back-reduced w = reduced-reverse (reduce Γ (reverse w)) (reduce-reduced (reverse w))
+
+  pub reduce-back-~ : (w : Word Γ) → reverse (reduce Γ (reverse w)) ~ reduce Γ w
+  reduce-back-~ w = reduced-~ (reverse (reduce Γ (reverse w))) (reduce Γ w) (reduce-back-reduced w) (reduce-reduced w)
+      (then (reduce-back-≈ w) (back (reduce-≈ w)))
+
   pub reduced-undo : (w : Word Γ) → Reduced Γ w → Reduced Γ (undo Γ w [])
   reduced-undo w r = reduced-mirror (λ x. undo Γ x []) (λ x y e. ≈-undo Γ e [])
       (λ x. omega (arith, undo-length inv x [])) (undo-twice Γ) w r
