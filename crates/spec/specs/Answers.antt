@@ -7,6 +7,8 @@ use Rattle.spec.specs.declared.Catalogue.{Catalogue}
 use Rattle.spec.specs.declared.Catalogue.the-variants as catalogue
 use Rattle.spec.specs.declared.Written.{Written}
 use Rattle.spec.specs.declared.Written.the-variants as written
+use Rattle.spec.specs.declared.NormalForm.{NormalForm}
+use Rattle.spec.specs.declared.NormalForm.the-variants as normal-form
 use Rattle.spec.specs.declared.Equality.{Equality}
 use Rattle.spec.specs.declared.Equality.the-variants as equality
 use Rattle.spec.specs.declared.Loops.{Loops}
@@ -31,6 +33,15 @@ toldCatalogue (catalogue.Refused r) = refused (lineOf r)
 abbrev pub toldWritten : Written → Answer ℕ
 toldWritten (written.Length l) = given l
 toldWritten (written.Refused r) = refused (lineOf r)
+
+-- the length of a normal form, with the number of pairs
+pub record FormCounts : Type 0 where
+  pub length : ℕ
+  pub pairs : ℕ
+
+abbrev pub toldNormalForm : NormalForm → Answer FormCounts
+toldNormalForm (normal-form.Written l m) = given (record { length = l; pairs = m })
+toldNormalForm (normal-form.Refused r) = refused (lineOf r)
 
 -- yes (true), no (false), or a refusal
 abbrev pub toldEquality : Equality → Answer Bool

@@ -14,7 +14,8 @@ use Rattle.spec.specs.Catalogue.{commands, catalogueLines}
 use Rattle.spec.specs.Conflict.{conflict}
 use Rattle.spec.specs.Plan.{planLines}
 use Rattle.spec.specs.Letters.{letters, alphabet, normalForm}
-use Rattle.spec.specs.Answers.{yesNo}
+use Rattle.spec.specs.Answers.{yesNo, FormCounts}
+use Rattle.spec.specs.Pairs.{reading, pairNumbers}
 
 -- the normal form of the core of a plan
 unfoldable pub coreForm : List ℕ → List ℕ → List ℕ
@@ -50,7 +51,7 @@ conflictRows c = map (λ a. map (λ b. yesNo (conflict c a b)) numbers) numbers
 abbrev pub catalogueTable : List ℕ → List (List ℕ) → List (List ℕ)
 catalogueTable c table = orKept (firstLine (catalogueLines c)) (conflictRows c) table
 
--- Normal form
+-- Normal form alone, as C callers ask for it
 
 abbrev pub normalFormLines : List ℕ → List ℕ → List ℕ → List (Option Line)
 normalFormLines c v area =
@@ -61,6 +62,27 @@ normalFormAnswer c v area = orElse (firstLine (normalFormLines c v area)) (lengt
 
 abbrev pub normalFormArea : List ℕ → List ℕ → List ℕ → List ℕ
 normalFormArea c v area = areaAfter (firstLine (normalFormLines c v area)) (normalForm c v) area
+
+-- Normal form with its pairs: as the normal form, and the numbers of the pairs in a second area
+
+-- line 12: the second area is smaller than `need` numbers
+abbrev pub pairsLine : ℕ → List ℕ → Option Line
+pairsLine need pairs = holds (ltb (length pairs) need) (line 12 0 1)
+
+abbrev pub pairedLines : List ℕ → List ℕ → List ℕ → List ℕ → List (Option Line)
+pairedLines c v area pairs = normalFormLines c v area ++ pairsLine (length v) pairs ∷ []
+
+abbrev pub pairedCounts : List ℕ → List ℕ → FormCounts
+pairedCounts c v = record { length = length (normalForm c v); pairs = length (reading c v .pairs) }
+
+abbrev pub pairedAnswer : List ℕ → List ℕ → List ℕ → List ℕ → Answer FormCounts
+pairedAnswer c v area pairs = orElse (firstLine (pairedLines c v area pairs)) (pairedCounts c v)
+
+abbrev pub pairedArea : List ℕ → List ℕ → List ℕ → List ℕ → List ℕ
+pairedArea c v area pairs = areaAfter (firstLine (pairedLines c v area pairs)) (normalForm c v) area
+
+abbrev pub pairedNumbers : List ℕ → List ℕ → List ℕ → List ℕ → List ℕ
+pairedNumbers c v area pairs = areaAfter (firstLine (pairedLines c v area pairs)) (pairNumbers c v) pairs
 
 -- Core: the normal form of the core, refused and written as the normal form is
 

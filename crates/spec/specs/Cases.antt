@@ -1,6 +1,6 @@
 -- The manual's starred cases as one table, and the sentence that the definitions of the calls yield each row;
 -- the crate spec_laws proves it (CasesHold).
-use Prim.Native.Nat.{ℕ}
+use Prim.Native.Nat.{ℕ, _/_}
 use mathlib.Core.Path.{_≡_}
 use mathlib.Core.Bool.{true}
 use mathlib.Core.List.{List, [], _∷_, _++_}
@@ -8,6 +8,7 @@ use mathlib.Core.Option.{none, some}
 use lib.ListN.{length, drop, replicate}
 use Rattle.spec.specs.Table.{Answer, given, NoneHolds}
 use Rattle.spec.specs.Calls.{normalFormAnswer, normalFormArea, coreAnswer, coreArea, equalAnswer}
+use Rattle.spec.specs.Calls.{pairedAnswer, pairedArea, pairedNumbers}
 use Rattle.spec.specs.Loops.{leadInRoom, loopsLines, Looped, checkAnswer, checkArea0, checkArea1}
 
 -- catalogue K: conflicts 1-2, 2-3, 3-4
@@ -28,6 +29,8 @@ undo3 = 131
 pub data Row : Type 0 where
   -- a plan and its normal form
   normal : List ℕ → List ℕ → Row
+  -- a plan, its normal form, and the places of the letters that cancel, two by two
+  pairs : List ℕ → List ℕ → List ℕ → Row
   -- a plan and its core, in normal form
   cored : List ℕ → List ℕ → Row
   -- two equal plans
@@ -48,6 +51,10 @@ room v w = replicate (leadInRoom K v w) 0
 -- the row is what the definitions of the calls yield, in areas that are just large enough
 abbrev pub Yields : Row → Type 0
 Yields (normal v z) = Writes (normalFormAnswer K v v) (normalFormArea K v v) v z
+Yields (pairs v z ns) =
+    (pairedAnswer K v v v ≡ given (record { length = length z; pairs = length ns / 2 }))
+    × (pairedArea K v v v ≡ z ++ drop (length z) v)
+    × (pairedNumbers K v v v ≡ ns ++ drop (length ns) v)
 Yields (cored v z) = Writes (coreAnswer K v v) (coreArea K v v) v z
 Yields (equal v w) = equalAnswer K v w ≡ given true
 Yields (joined v w u z) =
@@ -63,7 +70,7 @@ abbrev pub Every : List Row → Type 0
 Every [] = Unit {0}
 Every (r ∷ rs) = Yields r × Every rs
 
--- cases 1 to 7 and 9 to 11, and the slip about the core that tests only the letters written first and last
+-- cases 1 to 7 and 9 to 11, the slip about the core that tests only the letters written first and last, and pairs
 abbrev pub starred : List Row
 starred =
     normal [] []
@@ -80,6 +87,12 @@ starred =
     ∷ apart (1 ∷ []) (undo1 ∷ [])
     ∷ apart (1 ∷ 2 ∷ 1 ∷ undo2 ∷ []) (1 ∷ 1 ∷ [])
     ∷ cored (3 ∷ 1 ∷ 2 ∷ undo3 ∷ undo1 ∷ []) (2 ∷ [])
+    ∷ pairs [] [] []
+    ∷ pairs (0 ∷ 1 ∷ 3 ∷ 0 ∷ undo1 ∷ []) (3 ∷ []) (1 ∷ 4 ∷ [])
+    ∷ pairs (2 ∷ 4 ∷ 3 ∷ 1 ∷ undo3 ∷ []) (2 ∷ 1 ∷ 4 ∷ []) (2 ∷ 4 ∷ [])
+    ∷ pairs (1 ∷ 2 ∷ undo2 ∷ undo1 ∷ []) [] (1 ∷ 2 ∷ 0 ∷ 3 ∷ [])
+    ∷ pairs (1 ∷ undo1 ∷ 1 ∷ undo1 ∷ []) [] (0 ∷ 1 ∷ 2 ∷ 3 ∷ [])
+    ∷ pairs (1 ∷ 1 ∷ undo1 ∷ undo1 ∷ []) [] (1 ∷ 2 ∷ 0 ∷ 3 ∷ [])
     ∷ []
 
 -- the sentence: every row of the table is what the definitions yield

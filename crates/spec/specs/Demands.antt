@@ -2,7 +2,7 @@
 -- bytes, answers what its definition says (Calls, Loops) and leaves its areas as its definition says; here stands what
 -- that is worth, over steps (Step), their order (Order), pairs (Core) and lead-ins (Join) alone. The crate spec_laws
 -- proves each demand as one value (DemandsMet), the crate loops_framing that of the program's input.
-use Prim.Native.Nat.{ℕ, _+_, _≤_, _<_}
+use Prim.Native.Nat.{ℕ, _+_, _*_, _≤_, _<_}
 use mathlib.Core.Path.{_≡_}
 use mathlib.Core.Bool.{Bool, true}
 use mathlib.Core.List.{List, [], _++_}
@@ -17,9 +17,11 @@ use Rattle.spec.specs.Step.{Command, Equal}
 use Rattle.spec.specs.Order.{Earlier}
 use Rattle.spec.specs.Join.{Joins}
 use Rattle.spec.specs.Core.{Swaps, Least, CyclicallyReduced, TakenOff}
-use Rattle.spec.specs.Answers.{yesNo, CheckedLeadIn}
+use Rattle.spec.specs.Answers.{yesNo, FormCounts, CheckedLeadIn}
+use Rattle.spec.specs.Pairs.{pairNumbers, Accounts}
 use Rattle.spec.specs.Calls.{normalFormAnswer, normalFormArea, coreForm, coreAnswer, coreArea}
 use Rattle.spec.specs.Calls.{catalogueAnswer, catalogueTable, normalFormLines, equalLines, equalAnswer}
+use Rattle.spec.specs.Calls.{pairedLines, pairedAnswer, pairedArea, pairedNumbers}
 use Rattle.spec.specs.Loops.{loopsLines, Looped, LeadIn, checkLines, checkAnswer}
 use Rattle.spec.specs.Fault.{faultLines, faultAnswer}
 use Rattle.spec.specs.Framing.{Framed, wellFramed, catalogueOf, plan1Of, plan2Of}
@@ -56,6 +58,20 @@ pub record Demand2 : Type 0 where
   pub equal : (c v w : List ℕ) (b : Bool) → equalAnswer c v w ≡ given b → (b ≡ true) ↔ Equal c v w
   pub normal-form : (c v area : List ℕ) (l : ℕ) → normalFormAnswer c v area ≡ given l
       → (length (take l (normalFormArea c v area)) ≡ l) × Shortest c v (take l (normalFormArea c v area))
+
+-- What cancelled. A normal form call with a second area is refused for what one without is, or else by line 12. Where
+-- it is not refused, its length and its first area are those of the call without, and the second area starts with the
+-- M pairs told, two numbers each: what the reading from left to right finds, in its order. Past them it is as it was.
+-- That reading accounts for every letter of the plan.
+pub record PairsDemand : Type 0 where
+  pub refused-alike : (c v area pairs : List ℕ) (l : Line) → FirstHolds l (pairedLines c v area pairs)
+      → FirstHolds l (normalFormLines c v area) ⊎ (NoneHolds (normalFormLines c v area) × (l ≡ line 12 0 1))
+  pub form-alike : (c v area pairs : List ℕ) (k : FormCounts) → pairedAnswer c v area pairs ≡ given k
+      → (normalFormAnswer c v area ≡ given (k .length)) × (pairedArea c v area pairs ≡ normalFormArea c v area)
+  pub pairs : (c v area pairs : List ℕ) (k : FormCounts) → pairedAnswer c v area pairs ≡ given k
+      → (length (take (2 * k .pairs) (pairedNumbers c v area pairs)) ≡ 2 * k .pairs)
+      × (take (2 * k .pairs) (pairedNumbers c v area pairs) ≡ pairNumbers c v)
+      × (drop (2 * k .pairs) (pairedNumbers c v area pairs) ≡ drop (2 * k .pairs) pairs) × Accounts c v
 
 -- z is the core of v: v is equal to some g, z, undo of g; z is cyclically reduced, and a normal form; it is left when
 -- pairs are taken off some shortest plan of v's effect, and what is left of any of them, in any way, has its effect
@@ -99,7 +115,7 @@ pub record Explains (c v w u : List ℕ) (ls : List (Option Line)) : Type 0 wher
   pub else-area : faultAnswer c v w u ≡ none → (l : Line) → FirstHolds l ls → l .number ≡ 9
 
 -- The fault call tells exactly the first of lines 1 to 8 that holds, of the catalogue or of plan 1, 2 or 3, and so it
--- explains each refusal of each call, with empty plans where the call has fewer.
+-- explains each refusal of each call, with empty plans where the call has fewer (PairsDemand has line 12).
 pub record FaultDemand : Type 0 where
   pub exactly : (c v w u : List ℕ) (l : Line) → (faultAnswer c v w u ≡ some l) ↔ FirstHolds l (faultLines c v w u)
   pub among : (c v w u : List ℕ) (l : Line) → faultAnswer c v w u ≡ some l

@@ -11,6 +11,7 @@ pub mod Core
 pub mod AlphabetLaws
 pub mod Letters
 pub mod Answers
+pub mod Pairs
 pub mod Calls
 pub mod Loops
 pub mod Fault

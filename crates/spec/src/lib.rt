@@ -36,6 +36,13 @@ pub enum Written {
     Refused(Refusal),
 }
 
+// A normal form: its length, where it stands at the start of the area, and the number of pairs of places whose letters
+// cancelled with each other, which stand at the start of the second area.
+pub enum NormalForm {
+    Written { length: usize, pairs: usize },
+    Refused(Refusal),
+}
+
 pub enum Equality {
     Yes,
     No,

@@ -28,6 +28,7 @@ use Rattle.spec.specs.Conflict.{conflict}
 use Rattle.spec.specs.Plan.{isCommand, passes}
 use Rattle.spec.specs.Byte.{undone}
 use Rattle.spec.specs.Letters.{letters, alphabet, normalForm}
+use Rattle.spec.specs.Pairs.{partner, readByte, readFrom, reading}
 use Rattle.spec.specs.Calls.{coreForm}
 use Rattle.spec.specs.Join.{Joins}
 use Rattle.spec.specs.Loops.{isEmpty, unsettled, leadInRoom, loopsLines, apart, joined}
@@ -66,7 +67,7 @@ unfolding firstOf isEmpty unsettled without-step without act-step act reduce mee
     Core.undone without-last between pair-step pair peels-step peels core coreForm insert-step insert
     relabel-step relabel merge-step Part.commands merge merge-row merge-all labels label apexes share part hit
     put split settled-step settled ring agree-step agree search-step search rotation found? settled-ring
-    part-ring rotated? parts-joined? cores-joined? joined? keepIf filter
+    part-ring rotated? parts-joined? cores-joined? joined? keepIf filter partner readByte readFrom reading
 starred-hold =
     (refl, refl)
     & (refl, refl)
@@ -82,4 +83,10 @@ starred-hold =
     & apart-row (1 ∷ []) (undo1 ∷ []) refl refl
     & apart-row (1 ∷ 2 ∷ 1 ∷ undo2 ∷ []) (1 ∷ 1 ∷ []) refl refl
     & (refl, refl)
+    & (refl, refl, refl)
+    & (refl, refl, refl)
+    & (refl, refl, refl)
+    & (refl, refl, refl)
+    & (refl, refl, refl)
+    & (refl, refl, refl)
     & tt

@@ -1,5 +1,5 @@
 -- For the reader, and cited by no other file: the demands are met, each is a value of its statement in the crate spec.
-use Prim.Native.Nat.{ℕ, _+_, _≤_, _<_}
+use Prim.Native.Nat.{ℕ, _+_, _*_, _≤_, _<_}
 use mathlib.Core.Path.{_≡_, refl, sym, _∙_, ap}
 use mathlib.Core.Bool.{Bool, true}
 use mathlib.Core.List.{List, [], _∷_, _++_}
@@ -27,10 +27,14 @@ use Rattle.spec_laws.specs.CoreFormLaws.{core-of}
 use Rattle.spec_laws.specs.SearchLaws.{given-not}
 use Rattle.spec.specs.Step.{Equal}
 use Rattle.spec.specs.Demands.{Demand1, Demand2, Demand3, Shortest, Exact, IsCore}
-use Rattle.spec.specs.Demands.{CatalogueDemand, CoreDemand, FaultDemand, ProgramDemand, PlansDemand}
+use Rattle.spec.specs.Demands.{CatalogueDemand, PairsDemand, CoreDemand, FaultDemand, ProgramDemand, PlansDemand}
 use Rattle.spec.specs.Calls.{planLimit, areaLine, areaAfter, normalFormLines, normalFormAnswer, normalFormArea}
 use Rattle.spec.specs.Calls.{catalogueAnswer, catalogueTable, coreForm, coreAnswer, coreArea, equalLines, equalAnswer}
-use Rattle.spec.specs.Answers.{yesNo, CheckedLeadIn}
+use Rattle.spec.specs.Calls.{pairedLines, pairedCounts, pairedAnswer, pairedArea, pairedNumbers}
+use Rattle.spec.specs.Answers.{yesNo, FormCounts, CheckedLeadIn}
+use Rattle.spec.specs.Pairs.{reading, pairNumbers, Accounts}
+use Rattle.spec_laws.specs.ReadingLaws.{numbers-length, accounts}
+use Rattle.spec_laws.specs.PairedLaws.{form-few, form-passes, paired-refused, paired-none}
 use Rattle.spec.specs.Loops.{leadInRoom, loopsLines, Looped, refuses, apart, joined, LeadIn}
 use Rattle.spec.specs.Loops.{checkLines, checkResult, checkAnswer}
 use Rattle.spec_laws.specs.UnsettledLaws.{never-ten}
@@ -107,16 +111,7 @@ equal-demand c v w b e = (
 -- a plan whose normal form or core is given passes, under at most 24 commands
 form-given : (c v area : List ℕ) → firstLine (normalFormLines c v area) ≡ none
     → (commands c ≤ 127) × Passing (commands c) v
-form-given c v area e = (
-  omega (arith, few-commands c (none-left (catalogueLines c) plan early)),
-  lines-pass 1 planLimit (commands c) v .0 (none-right (catalogueLines c) plan early) .1,
-)
-  where
-    plan : List (Option Line)
-    plan = planLines 1 planLimit (commands c) v
-
-    early : firstLine (catalogueLines c ++ plan) ≡ none
-    early = none-left (catalogueLines c ++ plan) (areaLine 0 (length v) area ∷ []) e
+form-given c v area e = (omega (arith, form-few c v area e), form-passes c v area e .1)
 
 -- the first L bytes of an area are what was written there
 written-first : (ls : List (Option Line)) (z area : List ℕ) (l : ℕ) (P : List ℕ → Type 0)
@@ -136,6 +131,36 @@ normal-form-demand c v area l e =
 
 pub demand-2 : Demand2
 demand-2 = record { equal = equal-demand; normal-form = normal-form-demand }
+
+-- What cancelled
+
+paired-form : (c v area pairs : List ℕ) (k : FormCounts) → pairedAnswer c v area pairs ≡ given k
+    → (normalFormAnswer c v area ≡ given (k .length)) × (pairedArea c v area pairs ≡ normalFormArea c v area)
+paired-form c v area pairs k e =
+    let (none-refuses, same) = answer-given (firstLine (pairedLines c v area pairs)) (pairedCounts c v) k e in
+    rw (none-refuses, paired-none c v area pairs none-refuses) (ap (λ x. given (x .length)) same, refl)
+
+paired-numbers : (c v area pairs : List ℕ) (k : FormCounts) → pairedAnswer c v area pairs ≡ given k
+    → (length (take (2 * k .pairs) (pairedNumbers c v area pairs)) ≡ 2 * k .pairs)
+    × (take (2 * k .pairs) (pairedNumbers c v area pairs) ≡ pairNumbers c v)
+    × (drop (2 * k .pairs) (pairedNumbers c v area pairs) ≡ drop (2 * k .pairs) pairs) × Accounts c v
+paired-numbers c v area pairs k e =
+    let (none-refuses, same) = answer-given (firstLine (pairedLines c v area pairs)) (pairedCounts c v) k e in
+    let n = numbers-length (reading c v .pairs) ∙ ap (λ x. 2 * x .pairs) same in
+    let rest = drop (length (pairNumbers c v)) pairs in
+    let t : take (2 * k .pairs) (pairNumbers c v ++ rest) ≡ pairNumbers c v =
+    take-at (pairNumbers c v) rest (2 * k .pairs) n in
+    let passing = form-passes c v area (paired-none c v area pairs none-refuses) .1 in
+    rw none-refuses (
+      ap length t ∙ n,
+      t,
+      ap (λ m. drop m (pairNumbers c v ++ rest)) (sym n) ∙ drop-append-seam (pairNumbers c v) rest
+          ∙ ap (λ m. drop m pairs) n,
+      accounts c v passing,
+    )
+
+pub demand-pairs : PairsDemand
+demand-pairs = record { refused-alike = paired-refused; form-alike = paired-form; pairs = paired-numbers }
 
 -- The core call
 

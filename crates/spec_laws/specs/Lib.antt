@@ -13,9 +13,12 @@ pub mod StepLaws
 pub mod OrderLaws
 pub mod NormalFormLaws
 pub mod SwapLaws
+pub mod PartnerLaws
+pub mod ReadingLaws
 pub mod JoinLaws
 pub mod CoreFormLaws
 pub mod CallLaws
+pub mod PairedLaws
 pub mod LoopLaws
 pub mod UnsettledLaws
 pub mod FaultLaws
