@@ -32,7 +32,7 @@
 extern "C" {
 #endif
 
-#define BUSPLAN_VERSION "1.0.0"
+#define BUSPLAN_VERSION "1.1.0"
 
 #define BUSPLAN_MAX_COMMANDS 24
 #define BUSPLAN_MAX_PLAN 1024
@@ -51,16 +51,18 @@ extern "C" {
 
 /* The stack that each call needs at the most, in bytes. These are measured (docs/MEASUREMENTS.md) and rounded up, not
  * proved. A thread has needs of its own beside them: 16 kB more are enough with glibc. */
-#define BUSPLAN_NORMAL_FORM_STACK 32000
-#define BUSPLAN_CORE_STACK 32000
-#define BUSPLAN_EQUAL_STACK 32000
+#define BUSPLAN_NORMAL_FORM_STACK 36000
+#define BUSPLAN_CORE_STACK 36000
+#define BUSPLAN_EQUAL_STACK 36000
 #define BUSPLAN_LOOPS_STACK 300000
 #define BUSPLAN_LEAD_IN_CHECK_STACK 300000
 #define BUSPLAN_FAULT_STACK 8000
 #define BUSPLAN_STACK 300000 /* any of them */
 
-/* Why a call is refused: the first of these that holds, in this order, but 7 and 8 plan by plan: those of the first plan
- * come before those of the second. A call returns minus the number; busplan_fault tells the plan and the place. */
+/* Why a call is refused: the first of these that holds, in this order, but 7 and 8 plan by plan: those of the first
+ * plan come before those of the second. A call returns minus the number; busplan_fault tells the plan and the place. No
+ * function here returns 12: it is of the normal form call from Rattle, which also tells the places of the letters that
+ * cancelled with each other. */
 enum busplan_refusal {
     BUSPLAN_CATALOGUE_SIZE = 1, /* catalogue under 2 bytes, or not 2 + N + 2R */
     BUSPLAN_COMMAND_COUNT = 2,  /* N above 24 */
@@ -72,7 +74,8 @@ enum busplan_refusal {
     BUSPLAN_PLAN_BYTE = 8,      /* a byte that is not 0, 1 to N or 129 to 128 + N */
     BUSPLAN_AREA_SIZE = 9,      /* an area smaller than the call asks for */
     BUSPLAN_UNSETTLED = 10,     /* a part of a core is unsettled after N rounds; proved never to be returned */
-    BUSPLAN_FRAMING = 11        /* the input of the program loops is badly framed; no call returns it */
+    BUSPLAN_FRAMING = 11,       /* the input of the program loops is badly framed; no call returns it */
+    BUSPLAN_PAIRS_SIZE = 12     /* from Rattle alone: too little room for the places of the letters that cancelled */
 };
 
 /* What a call's answer says if it is a refusal, in English, without the plan and the place. */
@@ -89,13 +92,14 @@ static inline const char *busplan_refusal_text(int64_t answer) {
     case -BUSPLAN_AREA_SIZE: return "an area is smaller than the call asks for";
     case -BUSPLAN_UNSETTLED: return "a part of a core is unsettled after N rounds";
     case -BUSPLAN_FRAMING: return "the input is badly framed";
+    case -BUSPLAN_PAIRS_SIZE: return "there is too little room for the places of the letters that cancelled";
     default: return answer < 0 ? "no refusal of this library" : "not refused";
     }
 }
 
 /* The normal form of a plan: the shortest plan of the same effect and, of those, the first in the order 1, -1, 2, -2
  * and so on. area: at least BUSPLAN_FORM_ROOM(plan_size) bytes. Returns the length of the normal form, which stands at
- * the start of it. */
+ * the start of it. Which letters of the plan cancelled with each other is not told here, but to callers from Rattle. */
 int64_t busplan_normal_form(const uint8_t *catalogue, size_t catalogue_size,
                             const uint8_t *plan, size_t plan_size,
                             uint8_t *area, size_t area_size);

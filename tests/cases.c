@@ -1,6 +1,7 @@
-/* The manual's cases, its edges, its slips and its table of refusals, as rows with the answers that it gives. Every row
- * is put to the library and to the solver, once with empty slices as null pointers and once not. Then what busplan.h
- * says of the room for areas and of the refusals' texts. */
+/* The manual's cases, its edges, its slips and its table of refusals, as rows with the answers that it gives, but for
+ * the pairs of a normal form, which no call for C tells. Every row is put to the library and to the solver, once with
+ * empty slices as null pointers and once not. Then what busplan.h says of the room for areas and of the refusals'
+ * texts. */
 #include "calls.h"
 #include "guarded.h"
 
@@ -351,8 +352,8 @@ static const struct {
 } texts[] = {
     {-1, "2 + N + 2R"}, {-2, "24 commands"}, {-3, "index"}, {-4, "record whose"}, {-5, "doesn't end"},
     {-6, "its own chain"}, {-7, "1,024"}, {-8, "byte that"}, {-9, "area"}, {-10, "unsettled"}, {-11, "framed"},
-    {0, "not refused"}, {1, "not refused"}, {INT64_MAX, "not refused"},
-    {-12, "no refusal of this library"}, {INT64_MIN, "no refusal of this library"},
+    {-12, "letters that cancelled"}, {0, "not refused"}, {1, "not refused"}, {INT64_MAX, "not refused"},
+    {-13, "no refusal of this library"}, {INT64_MIN, "no refusal of this library"},
 };
 
 static void check_texts(void) {

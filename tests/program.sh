@@ -176,10 +176,12 @@ printf 'pub fn half(x: u64, y: u64) -> u64 {\n    x / y\n}\n' >"$small/crates/ha
 expect 1 '' "run: crate half is not proved; the end of target/log/half.out:" "$small/run"
 said "rt: half NOT PROVED"
 
-# README.md shows the example's bytes, and the caller in Rattle as it is.
+# README.md shows, as they are, the example's bytes, a caller in Rattle, what it prints, and a step of another's proof.
 bytes=$(od -An -v -tx1 crates/loops/stdin | tr -s ' \n' '  ' | sed 's/^ *//; s/ *$//')
-caller=$(sed -n '/^fn main/,$s/^/    /p' crates/example/src/main.rt)
-for shown in "$bytes" "$caller"; do
+caller=$(sed -n '/^fn /,$p' crates/example/src/main.rt | sed 's/^./    &/')
+prints=$(sed 's/^/    /' crates/example/stdout)
+fits=$(sed -n '/^    normal-form-fits /,/ \.given /p' crates/example_slice/proofs/show/Proof.antt)
+for shown in "$bytes" "$caller" "$prints" "$fits"; do
   case $(cat README.md) in
     *"$shown"*) ;;
     *)

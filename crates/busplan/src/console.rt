@@ -14,7 +14,9 @@ pub extern "C" fn busplan_normal_form(catalogue: &[u8], plan: &[u8], area: &mut 
     ensures bytes { λ r. ⌜ now (area .exit)
         ≡ normalFormArea (now (catalogue .entry)) (now (plan .entry)) (now (area .entry)) ⌝ }
 {
-    call_codes::length_code(crate::normal_form(catalogue, plan, area))
+    let mut pairs = call_forms::own_pairs();
+    let formed = crate::normal_form(catalogue, plan, area, &mut pairs);
+    call_codes::length_code(call_forms::length_alone(formed))
 }
 
 #[no_mangle]

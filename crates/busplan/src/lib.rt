@@ -20,6 +20,7 @@ pub use spec::Fault;
 pub use spec::LeadIn;
 pub use spec::Lengths;
 pub use spec::Loops;
+pub use spec::NormalForm;
 pub use spec::Reason;
 pub use spec::Refusal;
 pub use spec::Written;

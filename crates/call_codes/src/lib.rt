@@ -33,6 +33,7 @@ pub fn number(reason: Reason) -> u8
         Reason::AreaSize => 9,
         Reason::Unsettled => 10,
         Reason::Framing => 11,
+        Reason::PairsSize => 12,
     }
 }
 

@@ -3,6 +3,7 @@
 ghost use Prim.Native.Nat.{_<_};
 use cases_report::checked;
 use cases_report::compared;
+use cases_report::formed;
 use cases_report::found;
 use cases_report::joined;
 use cases_report::read;
@@ -31,6 +32,11 @@ fn conflict(c: &[u8], v: &[u8]) -> Word {
     read(answer, rows[row(at(v, 0))][row(at(v, 1))])
 }
 
+fn normal(c: &[u8], v: &[u8], area: &mut [u8]) -> Word {
+    let mut pairs = [0u16; 1100];
+    formed(busplan::normal_form(c, v, area, &mut pairs), area)
+}
+
 // The lead-in must be one.
 fn loops(c: &[u8], v: &[u8], w: &[u8], area: &mut [u8]) -> Word {
     let answer = busplan::loops(c, v, w, area);
@@ -47,7 +53,7 @@ fn lead_in(c: &[u8], v: &[u8], w: &[u8], u: &[u8]) -> Word {
 pub fn asked(call: u8, c: &[u8], v: &[u8], w: &[u8], u: &[u8], area: &mut [u8]) -> Word {
     match call {
         b'r' => conflict(c, v),
-        b'n' => written(busplan::normal_form(c, v, area), area),
+        b'n' => normal(c, v, area),
         b'c' => written(busplan::core(c, v, area), area),
         b'e' => compared(busplan::equal(c, v, w)),
         b'l' => loops(c, v, w, area),

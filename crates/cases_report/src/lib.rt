@@ -8,6 +8,7 @@ mod solver;
 
 pub use library::checked;
 pub use library::compared;
+pub use library::formed;
 pub use library::found;
 pub use library::joined;
 pub use library::lead_in;

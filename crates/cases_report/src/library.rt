@@ -10,6 +10,7 @@ use spec::Equality;
 use spec::Fault;
 use spec::LeadIn;
 use spec::Loops;
+use spec::NormalForm;
 use spec::Refusal;
 use spec::Written;
 
@@ -43,6 +44,14 @@ pub fn written(answer: Written, area: &[u8]) -> Word {
     match answer {
         Written::Length(l) => letters(area, l),
         Written::Refused(refusal) => refused(refusal),
+    }
+}
+
+// Of a normal form.
+pub fn formed(answer: NormalForm, area: &[u8]) -> Word {
+    match answer {
+        NormalForm::Written { length, pairs: _ } => letters(area, length),
+        NormalForm::Refused(refusal) => refused(refusal),
     }
 }
 

@@ -3,7 +3,7 @@
 
 use array_row::sheet;
 use conjugacy_of_parts::Outcome;
-use piling_form::form_of;
+use piling_form::core_of;
 ghost use Prim.Native.Nat.{ℕ, _≤_, _+_, _*_};
 ghost use mathlib.Core.List.{List};
 ghost use lib.ListN.{length};
@@ -58,10 +58,10 @@ pub fn join_plans(
 {
     let mut core1 = sheet();
     let mut lead1 = sheet();
-    let one = form_of(v, conflicts, &mut core1, &mut lead1, true);
+    let one = core_of(v, conflicts, &mut core1, &mut lead1);
     let mut core2 = sheet();
     let mut lead2 = sheet();
-    let two = form_of(w, conflicts, &mut core2, &mut lead2, true);
+    let two = core_of(w, conflicts, &mut core2, &mut lead2);
     join_by_cores(
         &core1[..one.form],
         &lead1[..one.lead],

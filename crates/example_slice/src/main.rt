@@ -1,9 +1,9 @@
 // A caller that hands on what a call has written: the bytes of the normal form of (1, 3, -1), to standard output.
 
-fn show(catalogue: &[u8], plan: &[u8], area: &mut [u8]) {
-    let written = busplan::normal_form(catalogue, plan, area);
-    if let busplan::Written::Length(l) = written {
-        io::write_all(1, &area[..l]);
+fn show(catalogue: &[u8], plan: &[u8], area: &mut [u8], places: &mut [u16]) {
+    let formed = busplan::normal_form(catalogue, plan, area, places);
+    if let busplan::NormalForm::Written { length, pairs: _ } = formed {
+        io::write_all(1, &area[..length]);
     }
 }
 
@@ -11,5 +11,6 @@ fn main() {
     let catalogue = [4u8, 3, 1, 2, 3, 0, 2, 0, 3, 0, 4, 0];
     let plan = [1u8, 3, 129];
     let mut area = [0u8; 3];
-    show(&catalogue, &plan, &mut area);
+    let mut places = [0u16; 3];
+    show(&catalogue, &plan, &mut area, &mut places);
 }

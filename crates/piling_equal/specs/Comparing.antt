@@ -13,6 +13,7 @@ use Rattle.spec.specs.Plan.{passes, Passing}
 use Rattle.spec.specs.Byte.{undone}
 use Rattle.spec.specs.Letters.{alphabet}
 use Rattle.piling_stacks.specs.Piling.{Piled, Counted}
+use Rattle.piling_stacks.specs.Push.{WithNewest}
 
 unfoldable pub undoneBy-step : Bool → List ℕ → ℕ → List ℕ → List ℕ
 undoneBy-step true c b z = z
@@ -31,11 +32,13 @@ pub record Undoable (c : List ℕ) (conflicts rows : List (List ℕ)) (heights :
   pub piled : Piled c rows heights z
   pub room : length z + spare ≤ 1024
 
--- what the byte spends, and the piling after it if that was spare
+-- what the byte spends, and the piling after it if that was spare; where it spends nothing its undo has cancelled with
+-- the newest letter of its command
 pub record Undone (c : List ℕ) (rows : List (List ℕ)) (heights : List ℕ) (byte spare : ℕ) (z : List ℕ) (r : ℕ)
     : Type 0 where
   pub spent : length (undoneBy c byte z) + 1 ≡ length z + r
   pub piled : r ≤ spare → Piled c rows heights (undoneBy c byte z)
+  pub newest : r ≡ 0 → WithNewest c (undone byte) z
 
 -- a plan that passes, the conflicts, and the piling of a reduced word of n letters
 pub record Opposed (c w : List ℕ) (conflicts rows : List (List ℕ)) (heights : List ℕ) (n : ℕ) (z : List ℕ)

@@ -24,7 +24,7 @@ use Rattle.spec_laws.specs.LettersLaws.{letters-length}
 use Rattle.input_plan.specs.Lettered.{Lettered}
 use Rattle.spec_laws.specs.PlanLaws.{passing-at}
 use Rattle.piling_stacks.specs.Piling.{Piled, Counted}
-use Rattle.piling_stacks.specs.Push.{Facing}
+use Rattle.piling_stacks.specs.Push.{Facing, WithNewest}
 use Rattle.spec_laws.specs.LettersLaws.{more-filler, more-letter}
 use Rattle.piling_stacks.specs.PileLaws.{passes-range, facing-at}
 use Rattle.piling_equal.specs.Comparing.{undoneBy, undoneBy-step, Undoable, Undone, Opposed}
@@ -61,6 +61,7 @@ module _ {c : List ℕ} {conflicts rows : List (List ℕ)} {heights : List ℕ} 
   filler-undone e = record {
     spent = rw (undone-filler c byte z e);
     piled = λ l. rw (undone-filler c byte z e) (u .piled);
+    newest = λ h. absurd (omega arith);
   }
 
 module _ (c : List ℕ) (byte spare : ℕ) (z : List ℕ) {letter : ℕ} (e : letter ≡ undone byte) (n : ¬ (byte ≡ 0)) where
@@ -68,10 +69,12 @@ module _ (c : List ℕ) (byte spare : ℕ) (z : List ℕ) {letter : ℕ} (e : le
   undone-acts = undone-letter c byte z n ∙ ap (λ b. act (alphabet c) b z) (sym e)
 
   pub cut-undone : {rows : List (List ℕ)} {heights : List ℕ} → First (alphabet c) (undone letter) z
-      → Piled c rows heights (act (alphabet c) letter z) → Undone c rows heights byte spare z 0
-  cut-undone f p = record {
+      → Piled c rows heights (act (alphabet c) letter z) → WithNewest c letter z
+      → Undone c rows heights byte spare z 0
+  cut-undone f p t = record {
     spent = rw undone-acts (omega (arith, act-falls (alphabet c) letter z f));
     piled = λ l. rw undone-acts p;
+    newest = λ h. subst (λ b. WithNewest c b z) e t;
   }
 
   pub put-undone : {rows : List (List ℕ)} {heights : List ℕ} → ¬ First (alphabet c) (undone letter) z
@@ -79,6 +82,7 @@ module _ (c : List ℕ) (byte spare : ℕ) (z : List ℕ) {letter : ℕ} (e : le
   put-undone f p = record {
     spent = rw undone-acts (omega (arith, act-rises (alphabet c) letter z f));
     piled = λ l. rw (undone-acts, act-is (alphabet c) (put f)) (p l);
+    newest = λ h. absurd (omega arith);
   }
 
 -- the bytes from place i on

@@ -9,6 +9,7 @@ ghost use mathlib.Core.Path.{_≡_};
 ghost use mathlib.Core.Bool.{true};
 ghost use mathlib.Core.List.{List, reverse};
 ghost use mathlib.Core.Logic.{_↔_};
+ghost use lib.ListN.{length};
 ghost use Rattle.theory_words.specs.Group.{_≈_};
 ghost use Rattle.spec.specs.Letters.{alphabet, letters, normalForm};
 ghost use Rattle.input_checks.specs.Passed.{Passed};
@@ -79,25 +80,29 @@ fn equals(
     true
 }
 
-// The piling of the shorter plan, in rows with no bead, and its number of letters.
+// The piling of the shorter plan, in rows with no bead, and its number of letters. Its pairs go to a row that nobody
+// reads.
 fn pile_shorter(
     v: &[u8],
     w: &[u8],
     conflicts: &[[u16; 24]; 24],
     rows: &mut [[u8; 1024]; 24],
     heights: &mut [u16; 24],
+    pairs: &mut [u16; 1024],
 ) -> usize
     requires { ⌜ ((c : List ℕ) × Passed c (now conflicts) (now v) × Passed c (now conflicts) (now w)
-        × (now rows ≡ blankRows) × (now heights ≡ blankHeights)) ⌝ }
+        × (now rows ≡ blankRows) × (now heights ≡ blankHeights) × (1024 ≡ length (now pairs))) ⌝ }
     ensures { λ r. ⌜ ((c : List ℕ) → Passed c (now (conflicts .entry)) (now (v .entry))
         → Passed c (now (conflicts .entry)) (now (w .entry))
         → Counted c (now (rows .exit)) (now (heights .exit))
         (reduced c (shorter (now (v .entry)) (now (w .entry)))) r) ⌝ }
 {
     if w.len() < v.len() {
-        return piling_stacks::pile(w, conflicts, rows, heights);
+        let shorter = piling_pairs::pile(w, conflicts, rows, heights, pairs);
+        return shorter.letters;
     }
-    piling_stacks::pile(v, conflicts, rows, heights)
+    let shorter = piling_pairs::pile(v, conflicts, rows, heights, pairs);
+    shorter.letters
 }
 
 // Whether the word piled up, of n letters, is that of the longer plan. The piling is handed over by value: this has one
@@ -133,6 +138,7 @@ pub fn equal(v: &[u8], w: &[u8], conflicts: &[[u16; 24]; 24]) -> bool
 {
     let mut rows = piling_stacks::blank_rows();
     let mut heights = array_counts::blank_heights();
-    let n = pile_shorter(v, w, conflicts, &mut rows, &mut heights);
+    let mut pairs = piling_pairs::blank_places();
+    let n = pile_shorter(v, w, conflicts, &mut rows, &mut heights, &mut pairs);
     equals_longer(v, w, conflicts, rows, heights, n)
 }

@@ -7,13 +7,15 @@ ghost use mathlib.Core.List.{List};
 ghost use lib.ListN.{length};
 ghost use Rattle.array_row.specs.Area.{StartsWith};
 ghost use Rattle.input_checks.specs.Passed.{Passed};
+ghost use Rattle.piling_pairs.specs.Pairing.{PairsOf};
 ghost use Rattle.piling_core.specs.Peeling.{Peelable};
-ghost use Rattle.piling_form.specs.Coring.{form, Room, Remains, FormOf};
+ghost use Rattle.piling_form.specs.Coring.{form, Room, Remains, CoreOf, FormOf};
 
-// The length of the form, and the number of letters taken off in front.
+// The length of the form, the number of letters taken off in front, and that of the pairs that cancelled before.
 pub struct Formed {
     pub form: usize,
     pub lead: usize,
+    pub pairs: usize,
 }
 
 // Takes pairs off, as `peel` does, where the core is wanted; else nothing changes.
@@ -40,30 +42,46 @@ fn peel_if(
     0
 }
 
-// Writes the normal form of plan, or that of its core, at the start of area; with the core, at the start of lead, the
-// letters that were taken off in front.
-pub fn form_of(
+// Writes the normal form of plan, or that of its core, at the start of area, and the pairs of plan at the start of
+// pairs; with the core, at the start of lead, the letters that were taken off in front.
+fn form_of(
     plan: &[u8],
     conflicts: &[[u16; 24]; 24],
     area: &mut [u8],
     lead: &mut [u8],
+    pairs: &mut [u16],
     cored: bool,
 ) -> Formed
-    requires { ⌜ ((c : List ℕ) × Passed c (now conflicts) (now plan) × Room (now plan) (now area) (now lead)) ⌝ }
-    ensures { λ r. ⌜ ((c : List ℕ) → Passed c (now (conflicts .entry)) (now (plan .entry))
+    requires { ⌜ ((c : List ℕ) × Passed c (now conflicts) (now plan) × Room (now plan) (now area) (now lead)
+        × (length (now plan) ≤ length (now pairs))) ⌝ }
+    ensures formed { λ r. ⌜ ((c : List ℕ) → Passed c (now (conflicts .entry)) (now (plan .entry))
         → FormOf c (now (plan .entry)) (now (area .entry)) (now (lead .entry)) cored (now (area .exit))
         (now (lead .exit)) (r .form) (r .lead)) ⌝ }
+    ensures paired { λ r. ⌜ ((c : List ℕ) → Passed c (now (conflicts .entry)) (now (plan .entry))
+        → PairsOf c (now (plan .entry)) (now (pairs .entry)) (now (pairs .exit)) (r .pairs)) ⌝ }
 {
     let mut rows = piling_stacks::blank_rows();
     let mut heights = array_counts::blank_heights();
-    piling_stacks::pile(plan, conflicts, &mut rows, &mut heights);
+    let piled = piling_pairs::pile(plan, conflicts, &mut rows, &mut heights, pairs);
     let mut bottoms = array_counts::blank_heights();
     let taken = peel_if(&rows, &mut heights, &mut bottoms, conflicts, lead, cored);
     let left = piling_read::read_off(rows, heights, bottoms, conflicts, area);
     Formed {
         form: left,
         lead: taken,
+        pairs: piled.pairs,
     }
+}
+
+// The core of plan with the letters taken off in front, for a caller who does not hand out pairs.
+pub fn core_of(plan: &[u8], conflicts: &[[u16; 24]; 24], area: &mut [u8], lead: &mut [u8]) -> Formed
+    requires { ⌜ ((c : List ℕ) × Passed c (now conflicts) (now plan) × Room (now plan) (now area) (now lead)) ⌝ }
+    ensures { λ r. ⌜ ((c : List ℕ) → Passed c (now (conflicts .entry)) (now (plan .entry))
+        → CoreOf c (now (plan .entry)) (now (area .entry)) (now (lead .entry)) (now (area .exit))
+        (now (lead .exit)) (r .form) (r .lead)) ⌝ }
+{
+    let mut pairs = piling_pairs::blank_places();
+    form_of(plan, conflicts, area, lead, &mut pairs, true)
 }
 
 // A row for the letters taken off the longest plan.
@@ -73,13 +91,21 @@ fn blank_lead() -> [u8; 512]
     [0; 512]
 }
 
-// The same for a caller who wants the form alone; its length.
-pub fn form(plan: &[u8], conflicts: &[[u16; 24]; 24], area: &mut [u8], cored: bool) -> usize
-    requires { ⌜ ((c : List ℕ) × Passed c (now conflicts) (now plan) × (length (now plan) ≤ length (now area))) ⌝ }
-    ensures { λ r. ⌜ ((c : List ℕ) → Passed c (now (conflicts .entry)) (now (plan .entry))
-        → StartsWith (form cored c (now (plan .entry))) (now (area .entry)) (now (area .exit)) r) ⌝ }
+// The same for a caller who does not want the letters taken off.
+pub fn form(
+    plan: &[u8],
+    conflicts: &[[u16; 24]; 24],
+    area: &mut [u8],
+    pairs: &mut [u16],
+    cored: bool,
+) -> Formed
+    requires { ⌜ ((c : List ℕ) × Passed c (now conflicts) (now plan) × (length (now plan) ≤ length (now area))
+        × (length (now plan) ≤ length (now pairs))) ⌝ }
+    ensures formed { λ r. ⌜ ((c : List ℕ) → Passed c (now (conflicts .entry)) (now (plan .entry))
+        → StartsWith (form cored c (now (plan .entry))) (now (area .entry)) (now (area .exit)) (r .form)) ⌝ }
+    ensures paired { λ r. ⌜ ((c : List ℕ) → Passed c (now (conflicts .entry)) (now (plan .entry))
+        → PairsOf c (now (plan .entry)) (now (pairs .entry)) (now (pairs .exit)) (r .pairs)) ⌝ }
 {
     let mut lead = blank_lead();
-    let formed = form_of(plan, conflicts, area, &mut lead, cored);
-    formed.form
+    form_of(plan, conflicts, area, &mut lead, pairs, cored)
 }

@@ -1,8 +1,10 @@
 pub mod Piling
+pub mod Newest
 pub mod Push
 pub mod Pile
 pub mod Blank
 pub mod BeadsLaws
+pub mod NewestLaws
 pub mod PilingLaws
 pub mod BlankLaws
 pub mod PileLaws

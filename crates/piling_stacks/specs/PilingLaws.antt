@@ -7,17 +7,20 @@ use mathlib.Core.List.{List, [], _∷_, _++_, reverse}
 use lib.ListN.{length, getD, take, set, length-set, length-append, length-reverse}
 use Rattle.theory_words.specs.Trace.{Pick, First}
 use Rattle.theory_words.specs.Reduce.{act}
-use Rattle.theory_words.specs.ReduceLaws.{cut, put, act-is, act-falls}
+use Rattle.theory_words.specs.ReduceLaws.{cut, act-is}
 use Rattle.theory_words.specs.Stack.{proj, mark}
 use Rattle.theory_words.specs.StackLaws.{proj-length, stack-push, stack-pick, stack-first, stack-top}
 use Rattle.spec.specs.Byte.{commandOf, undone}
 use Rattle.spec.specs.AlphabetLaws.{command-undone}
 use Rattle.spec.specs.Letters.{alphabet}
-use Rattle.piling_stacks.specs.Piling.{Piled, Counted}
+use Rattle.piling_stacks.specs.Piling.{Piled}
 use Rattle.array_counts.specs.Heights.{Both, Changed}
 use Rattle.piling_stacks.specs.BeadsLaws.{Beads, written, beads-fit, beads-split, beads-top, meets-add, meets-off}
 use Rattle.array_counts.specs.MeetsLaws.{Meets, meets-line, meets-length, meets-one}
 use Rattle.piling_stacks.specs.Push.{Facing, Ready, Cancelled}
+use Rattle.spec_laws.specs.PartnerLaws.{first-partner}
+use Rattle.piling_stacks.specs.Newest.{ofCommand}
+use Rattle.piling_stacks.specs.NewestLaws.{met-newest}
 
 -- the stack of command i + 1, bottom first
 abbrev stackOf : List ℕ → ℕ → List ℕ → List ℕ
@@ -138,11 +141,21 @@ module _ {c : List ℕ} {rows : List (List ℕ)} {heights line : List ℕ} {k le
 module _ {c : List ℕ} {rows : List (List ℕ)} {heights : List ℕ} {letter : ℕ} {z : List ℕ} where
   pub gone-off : First (alphabet c) (undone letter) z → Piled c rows heights (act (alphabet c) letter z)
       → Cancelled c rows heights letter z true
-  gone-off f p = record { gone = λ e. (f, p); none = λ e. absurd (true≢false e) }
+  gone-off f p = record {
+    gone = λ e. (f, p);
+    none = λ e. absurd (true≢false e);
+    newest = λ e t s.
+        let (q, found, m) = first-partner c letter t (subst (First (alphabet c) (undone letter)) (sym s) f) in
+        (q, found, (ofCommand (commandOf letter) (q .rest), met-newest c m));
+  }
 
   pub none-off : Piled c rows heights z → ¬ First (alphabet c) (undone letter) z
       → Cancelled c rows heights letter z false
-  none-off p n = record { gone = λ e. absurd (false≢true e); none = λ e. (n, p) }
+  none-off p n = record {
+    gone = λ e. absurd (false≢true e);
+    none = λ e. (n, p);
+    newest = λ e. absurd (false≢true e);
+  }
 
 -- where a letter has not cancelled it is as ready as before
 pub still-ready : {c : List ℕ} {rows : List (List ℕ)} {heights line : List ℕ} {k letter : ℕ} {z : List ℕ}
@@ -152,16 +165,3 @@ still-ready l r p = record {
   facing = record { piled = p; within = r .within; own = r .own; wide = r .wide; tells = r .tells };
   room = l;
 }
-
--- a letter that has cancelled, or was put on where it could not
-module _ {c : List ℕ} {rows : List (List ℕ)} {heights : List ℕ} (letter : ℕ) (z : List ℕ) where
-  pub cut-counted : {n : ℕ} → First (alphabet c) (undone letter) z
-      → Piled c rows heights (act (alphabet c) letter z) → n ≡ length z
-      → (0 < n) × Counted c rows heights (act (alphabet c) letter z) (n - 1)
-  cut-counted f p e =
-      let l = act-falls (alphabet c) letter z f in
-      (omega arith, record { piled = p; count = omega arith })
-
-  pub put-counted : {n : ℕ} → ¬ First (alphabet c) (undone letter) z → Piled c rows heights (letter ∷ z) → n ≡ length z
-      → Counted c rows heights (act (alphabet c) letter z) (n + 1)
-  put-counted n p e = rw (act-is (alphabet c) (put n)) (record { piled = p; count = omega arith })

@@ -6,14 +6,10 @@ use array_counts::lower;
 ghost use Prim.Native.Nat.{ℕ, _<_};
 ghost use mathlib.Core.Path.{_≡_};
 ghost use mathlib.Core.List.{List, _∷_};
-ghost use lib.ListN.{length};
-ghost use Rattle.theory_words.specs.Reduce.{act};
 ghost use Rattle.spec.specs.Byte.{commandOf, undone};
-ghost use Rattle.spec.specs.Letters.{alphabet};
 ghost use Rattle.piling_stacks.specs.Blank.{blankRows};
-ghost use Rattle.piling_stacks.specs.Piling.{Piled, Counted};
+ghost use Rattle.piling_stacks.specs.Piling.{Piled};
 ghost use Rattle.piling_stacks.specs.Push.{Facing, Ready, Cancelled};
-ghost use Rattle.piling_stacks.specs.Pile.{Given, reduced};
 
 // Rows with no bead.
 pub fn blank_rows() -> [[u8; 1024]; 24]
@@ -76,53 +72,4 @@ pub fn put(
     let h = heights[k] as usize;
     lift(heights, line);
     rows[k][h] = letter;
-}
-
-// One letter of command k + 1 on a piling of n letters: it cancels or is put on. The number of letters then.
-pub fn push(
-    rows: &mut [[u8; 1024]; 24],
-    heights: &mut [u16; 24],
-    line: &[u16; 24],
-    k: usize,
-    letter: u8,
-    n: usize,
-) -> usize
-    requires { ⌜ ((c : List ℕ) × (z : List ℕ) × Ready c (now rows) (now heights) (now line) k letter z
-        × (n ≡ length z)) ⌝ }
-    ensures { λ r. ⌜ ((c z : List ℕ)
-        → Ready c (now (rows .entry)) (now (heights .entry)) (now (line .entry)) k letter z → n ≡ length z
-        → Counted c (now (rows .exit)) (now (heights .exit)) (act (alphabet c) letter z) r) ⌝ }
-{
-    if cancel(rows, heights, line, k, letter) {
-        return n - 1;
-    }
-    put(rows, heights, line, k, letter);
-    n + 1
-}
-
-// The piling of a plan that passes, in rows with no bead, and its number of letters. conflicts has a line for each
-// command.
-pub fn pile(
-    plan: &[u8],
-    conflicts: &[[u16; 24]; 24],
-    rows: &mut [[u8; 1024]; 24],
-    heights: &mut [u16; 24],
-) -> usize
-    requires { ⌜ ((c : List ℕ) × Given c (now plan) (now conflicts) (now rows) (now heights)) ⌝ }
-    ensures { λ r. ⌜ ((c : List ℕ)
-        → Given c (now (plan .entry)) (now (conflicts .entry)) (now (rows .entry)) (now (heights .entry))
-        → Counted c (now (rows .exit)) (now (heights .exit)) (reduced c (now (plan .entry))) r) ⌝ }
-{
-    let mut n = 0;
-    let mut i = 0;
-    while i < plan.len() {
-        let letter = plan[i];
-        if letter != 0 {
-            let k = (letter % 128) as usize - 1;
-            let line = conflicts[k];
-            n = push(rows, heights, &line, k, letter, n);
-        }
-        i += 1;
-    }
-    n
 }

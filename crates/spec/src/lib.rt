@@ -15,6 +15,7 @@ pub enum Reason {
     AreaSize,
     Unsettled,
     Framing,
+    PairsSize,
 }
 
 // plan is 1, 2 or 3 in the order given, and 0 for the catalogue; place counts from 0.

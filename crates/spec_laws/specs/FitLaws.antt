@@ -1,5 +1,5 @@
 -- For callers: as many bytes as a call says that it has written are in the area. So a caller may take `area[..l]`.
-use Prim.Native.Nat.{ℕ, _≤_}
+use Prim.Native.Nat.{ℕ, _*_, _≤_}
 use mathlib.Core.Path.{_≡_, refl, sym, _∙_, ap}
 use mathlib.Core.List.{List, _++_}
 use mathlib.Core.Option.{Option, none, some}
@@ -8,12 +8,17 @@ use lib.ListN.{length, drop, length-append}
 use Rattle.spec.specs.Table.{Line, Answer, given, firstLine, orElse}
 use Rattle.spec_laws.specs.CallLaws.{answer-given}
 use Rattle.spec.specs.Letters.{normalForm}
-use Rattle.spec.specs.declared.Written.{Written}
+use Rattle.spec.specs.declared.Written as written
 use Rattle.spec.specs.declared.Written.the-variants.{Length}
+use Rattle.spec.specs.declared.NormalForm.{NormalForm}
+use Rattle.spec.specs.declared.NormalForm.the-variants.{Written}
 use Rattle.spec.specs.declared.Loops.{Loops}
 use Rattle.spec.specs.declared.Loops.the-variants.{Joined}
-use Rattle.spec.specs.Answers.{toldWritten, toldLoops, CheckedLeadIn}
-use Rattle.spec.specs.Calls.{areaAfter, normalFormLines, normalFormAnswer, normalFormArea, coreForm, coreAnswer, coreArea}
+use Rattle.spec.specs.Answers.{toldWritten, toldNormalForm, toldLoops, CheckedLeadIn}
+use Rattle.spec.specs.Pairs.{reading, pairNumbers}
+use Rattle.spec_laws.specs.ReadingLaws.{numbers-length}
+use Rattle.spec.specs.Calls.{areaAfter, normalFormLines, coreForm, coreAnswer, coreArea}
+use Rattle.spec.specs.Calls.{pairedLines, pairedCounts, pairedAnswer, pairedArea, pairedNumbers}
 use Rattle.spec.specs.Loops.{Looped, refuses, apart, joined}
 use Rattle.spec.specs.Loops.{checkLines, checkResult, checkAnswer, checkArea0, checkArea1}
 
@@ -27,17 +32,31 @@ after-fits : (o : Option Line) (z area after : List ℕ) → o ≡ none → afte
 after-fits o z area after n e =
     at-start z (drop (length z) area) after (e ∙ ap (λ p. areaAfter p z area) n)
 
-written-fits : (o : Option Line) (z area : List ℕ) {r : Written} {after : List ℕ} {l : ℕ}
+written-fits : (o : Option Line) (z area : List ℕ) {r : written.Written} {after : List ℕ} {l : ℕ}
     → (toldWritten r ≡ orElse o (length z)) × (after ≡ areaAfter o z area) → r ≡ Length l → l ≤ length after
 written-fits o z area {after = after} {l = l} (e, b) k =
     let (none-refuses, long) = answer-given o (length z) l (sym e ∙ ap toldWritten k) in
     omega (arith, long, after-fits o z area after none-refuses b)
 
-module _ (c v area : List ℕ) {after : List ℕ} {r : Written} {l : ℕ} where
-  pub normal-form-fits : (toldWritten r ≡ normalFormAnswer c v area) × (after ≡ normalFormArea c v area)
-      → r ≡ Length l → l ≤ length after
-  normal-form-fits = written-fits (firstLine (normalFormLines c v area)) (normalForm c v) area
+-- the normal form in its area, and twice as many numbers as there are pairs in theirs
+module _ (c v area pairs : List ℕ) {after numbers : List ℕ} {r : NormalForm} {l m : ℕ} where
+  pub normal-form-fits : (toldNormalForm r ≡ pairedAnswer c v area pairs)
+      × ((after ≡ pairedArea c v area pairs) × (numbers ≡ pairedNumbers c v area pairs))
+      → r ≡ Written l m → (l ≤ length after) × (2 * m ≤ length numbers)
+  normal-form-fits (e, (a, b)) k =
+      let o = firstLine (pairedLines c v area pairs) in
+      let (n, same) = answer-given o (pairedCounts c v) (record { length = l; pairs = m })
+      (sym e ∙ ap toldNormalForm k) in (
+        omega (arith, ap (λ x. x .length) same, after-fits o (normalForm c v) area after n a),
+        omega (
+          arith,
+          ap (λ x. x .pairs) same,
+          numbers-length (reading c v .pairs),
+          after-fits o (pairNumbers c v) pairs numbers n b,
+        ),
+      )
 
+module _ (c v area : List ℕ) {after : List ℕ} {r : written.Written} {l : ℕ} where
   pub core-fits : (toldWritten r ≡ coreAnswer c v area) × (after ≡ coreArea c v area) → r ≡ Length l → l ≤ length after
   core-fits = written-fits (firstLine (normalFormLines c v area)) (coreForm c v) area
 

@@ -6,7 +6,6 @@ use lib.ListN.{take}
 use borrow.Author.Needs.{needs}
 use Rattle.array_row.specs.AreaLaws.{starts-fits, starts-count}
 use Rattle.piling_form.specs.Coring.{CoreOf}
-use Rattle.piling_form.specs.CoringLaws.{core-of}
 use Rattle.conjugacy_by_cores.specs.Join.{Plans, Cores}
 use Rattle.conjugacy_of_plans.specs.RoomLaws.{cores-room}
 use Rattle.conjugacy_of_plans.specs.CoresLaws.{core-and-lead, lead-count, lead-fits}
@@ -15,60 +14,60 @@ use Rattle.conjugacy_of_plans.proofs.join_plans.Tie as tie
 
 -- places on the way
 
-abbrev after-form-of : tie.After-lead2 → tie.After-form-of
-after-form-of c = c .before .before .before .before .before .before
+abbrev after-core-of : tie.After-lead2 → tie.After-core-of
+after-core-of c = c .before .before .before .before .before .before
 
-abbrev after-form-of2-from-core23 : tie.After-core23 → tie.After-form-of2
-after-form-of2-from-core23 c = c .before .before .before .before .before
+abbrev after-core-of2-from-core23 : tie.After-core23 → tie.After-core-of2
+after-core-of2-from-core23 c = c .before .before .before .before .before
 
-abbrev after-form-of2-from-lead23 : tie.After-lead23 → tie.After-form-of2
-after-form-of2-from-lead23 c = c .before .before .before .before .before .before
+abbrev after-core-of2-from-lead23 : tie.After-lead23 → tie.After-core-of2
+after-core-of2-from-lead23 c = c .before .before .before .before .before .before
 
-abbrev after-form-of2-from-join-by-cores-arg : tie.After-join-by-cores-arg → tie.After-form-of2
-after-form-of2-from-join-by-cores-arg c = c .before .before .before .before .before .before .before
+abbrev after-core-of2-from-join-by-cores-arg : tie.After-join-by-cores-arg → tie.After-core-of2
+after-core-of2-from-join-by-cores-arg c = c .before .before .before .before .before .before .before
 
-abbrev after-form-of2-from-slice-known2 : tie.After-slice-known2 → tie.After-form-of2
-after-form-of2-from-slice-known2 c = c .before .before .before .before .before .before .before .before .before .before
+abbrev after-core-of2-from-slice-known2 : tie.After-slice-known2 → tie.After-core-of2
+after-core-of2-from-slice-known2 c = c .before .before .before .before .before .before .before .before .before .before
 
 abbrev start-from-lead1 : tie.After-lead1 → tie.Start
 start-from-lead1 c = c .before .before .before .before .before .before .before
 
-abbrev start-from-form-of : tie.After-form-of → tie.Start
-start-from-form-of c = c .before .before .before .before .before .before .before .before
+abbrev start-from-core-of : tie.After-core-of → tie.Start
+start-from-core-of c = c .before .before .before .before .before .before .before .before
 
-abbrev first : tie.After-form-of2 → tie.After-form-of
+abbrev first : tie.After-core-of2 → tie.After-core-of
 first o = o .before .before .before .before .before .before .before
 
-abbrev start : tie.After-form-of2 → tie.Start
+abbrev start : tie.After-core-of2 → tie.Start
 start o = first o .before .before .before .before .before .before .before .before
 
 -- what is asked, for one catalogue
-abbrev Asked : tie.After-form-of2 → List ℕ → Type 0
+abbrev Asked : tie.After-core-of2 → List ℕ → Type 0
 Asked o k = let s = start o .args in Plans k (s .conflicts .now) (s .v .now) (s .w .now) (s .commands)
 
 -- the cores, and the letters taken off
 
-one : (o : tie.After-form-of2) (k : List ℕ) → Asked o k
-    → (let r = first o .form-of in CoreOf k (start o .args .v .now)
+one : (o : tie.After-core-of2) (k : List ℕ) → Asked o k
+    → (let r = first o .core-of in CoreOf k (start o .args .v .now)
     (first o .before .before .before .before .sheet .result) (first o .before .before .before .sheet2 .result)
     (r .last .1 .1 .0) (r .last .1 .1 .1 .0) (r .result .form) (r .result .lead))
-one o k p = core-of (first o .form-of .ensures k (p .first))
+one o k p = first o .core-of .ensures k (p .first)
 
-two : (o : tie.After-form-of2) (k : List ℕ) → Asked o k
-    → (let r = o .form-of2 in CoreOf k (start o .args .w .now)
+two : (o : tie.After-core-of2) (k : List ℕ) → Asked o k
+    → (let r = o .core-of2 in CoreOf k (start o .args .w .now)
     (o .before .before .before .before .sheet3 .result) (o .before .before .before .sheet4 .result)
     (r .last .1 .1 .0) (r .last .1 .1 .1 .0) (r .result .form) (r .result .lead))
-two o k p = core-of (o .form-of2 .ensures k (p .second))
+two o k p = o .core-of2 .ensures k (p .second)
 
-cores : (o : tie.After-form-of2) (k : List ℕ) → Asked o k
-    → (let s = start o .args in let r = first o .form-of in let t = o .form-of2 in
+cores : (o : tie.After-core-of2) (k : List ℕ) → Asked o k
+    → (let s = start o .args in let r = first o .core-of in let t = o .core-of2 in
     Cores k (s .conflicts .now) (s .v .now) (s .w .now) (take (r .result .form) (r .last .1 .1 .0))
     (take (r .result .lead) (r .last .1 .1 .1 .0)) (take (t .result .form) (t .last .1 .1 .0))
     (take (t .result .lead) (t .last .1 .1 .1 .0)) (s .commands))
 cores o k p = record { plans = p; first = core-and-lead (one o k p); second = core-and-lead (two o k p) }
 
-form-of-requires : tie.Need-form-of-requires
-form-of-requires c κs =
+core-of-requires : tie.Need-core-of-requires
+core-of-requires c κs =
     let s = start-from-lead1 c in
     let p = s .pre .1 .first in (
       s .pre .0,
@@ -79,10 +78,10 @@ form-of-requires c κs =
       },
     )
 
-form-of-requires-2 : tie.Need-form-of-requires-2
-form-of-requires-2 c κs =
-    let f = after-form-of c in
-    let s = start-from-form-of f in
+core-of-requires-2 : tie.Need-core-of-requires-2
+core-of-requires-2 c κs =
+    let f = after-core-of c in
+    let s = start-from-core-of f in
     let p = s .pre .1 .second in (
       s .pre .0,
       p,
@@ -119,28 +118,28 @@ array-share-prefix-core2 c =
 
 slice-aggregate-join-by-cores-3 : tie.Need-slice-aggregate-join-by-cores-3
 slice-aggregate-join-by-cores-3 c =
-    let o = after-form-of2-from-core23 c in
+    let o = after-core-of2-from-core23 c in
     starts-count (two o (start o .pre .0) (start o .pre .1) .form)
 
 array-share-prefix-lead2 : tie.Need-array-share-prefix-lead2
 array-share-prefix-lead2 c =
-    let o = after-form-of2-from-core23 c in
+    let o = after-core-of2-from-core23 c in
     lead-fits (two o (start o .pre .0) (start o .pre .1))
 
 slice-aggregate-join-by-cores-4 : tie.Need-slice-aggregate-join-by-cores-4
 slice-aggregate-join-by-cores-4 c =
-    let o = after-form-of2-from-lead23 c in
+    let o = after-core-of2-from-lead23 c in
     lead-count (two o (start o .pre .0) (start o .pre .1))
 
 join-by-cores-requires : tie.Need-join-by-cores-requires
 join-by-cores-requires c κs =
-    let o = after-form-of2-from-join-by-cores-arg c in
+    let o = after-core-of2-from-join-by-cores-arg c in
     let (k, p, f) = start o .pre in
     (k, _, _, cores o k p, cores-room (cores o k p), f)
 
 returns : tie.Need-returns
 returns c =
-    let o = after-form-of2-from-slice-known2 c in
+    let o = after-core-of2-from-slice-known2 c in
     λ k p. c .before .before .join-by-cores .ensures k _ _ (cores o k p)
 
 pub join-plans-spec : {M : Type 1} → statement M
@@ -148,9 +147,9 @@ join-plans-spec =
     tie.close
     (tie.spec
     (λ c κs. search needs) (λ c κs. search needs) (λ c. search needs) (λ c. search needs)
-    form-of-requires
+    core-of-requires
     (λ c κs. search needs) (λ c κs. search needs) (λ c. search needs) (λ c. search needs)
-    form-of-requires-2
+    core-of-requires-2
     array-share-prefix-core1
     slice-aggregate-join-by-cores
     array-share-prefix-lead1

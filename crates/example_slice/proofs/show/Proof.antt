@@ -8,14 +8,14 @@ use Rattle.example_slice.proofs.show.Tie as tie
 
 -- a place on the way
 abbrev start : tie.After-normal-form → tie.Start
-start f = f .before .before .before .before .before
+start f = f .before .before .before .before .before .before .before
 
 fits : tie.Need-slice-reshare-prefix-write-all
 fits c =
-    let f = c .before .before .before .before .before in
+    let f = c .before .before .before .before .before .before .before in
     let a = start f .args in
-    normal-form-fits (a .catalogue .now) (a .plan .now) (a .area .now) (f .normal-form .ensures)
-    (c .before .written .given .1)
+    normal-form-fits (a .catalogue .now) (a .plan .now) (a .area .now) (a .places .now) (f .normal-form .ensures)
+    (c .before .formed .given .1) .0
 
 counted : tie.Need-slice-aggregate-write-all
 counted c = sym (length-take-le _ _ (fits (c .before)))
@@ -28,4 +28,4 @@ show-spec =
     fits
     counted
     (λ c κs. search needs) (λ c. search needs) (λ c. search needs) (λ c. search needs) (λ c. search needs)
-    (λ c. search needs))
+    (λ c. search needs) (λ c. search needs) (λ c. search needs))

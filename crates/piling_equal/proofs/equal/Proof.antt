@@ -10,7 +10,7 @@ use Rattle.piling_equal.proofs.equal.Statement.{statement}
 use Rattle.piling_equal.proofs.equal.Tie as tie
 
 abbrev start : tie.After-pile-shorter → tie.Start
-start a = a .before .before .before .before .before .before .before
+start a = a .before .before .before .before .before .before .before .before .before
 
 -- the piling of the shorter plan, before the longer one
 module _ (a : tie.After-pile-shorter) (k : List ℕ) where
@@ -48,6 +48,6 @@ pub equal-spec : {M : Type 1} → statement M
 equal-spec =
     tie.close
     (tie.spec
-    (λ c κs. search needs) (λ c κs. search needs) (λ c κs. search needs)
+    (λ c κs. search needs) (λ c κs. search needs) (λ c κs. search needs) (λ c κs. search needs)
     equals-longer-requires
     returns)

@@ -38,8 +38,9 @@ returns-2 c = λ k z u.
     let o = known (c .before) in
     let n = o .before .before .if1 .left in
     let e = o .opposite .ensures in
-    let (f, q) = c .before .cancel .ensures k z (undoable-facing u n e) .gone (c .if2 .taken) in
-    cut-undone k _ _ z e n f q
+    let told = c .before .cancel .ensures k z (undoable-facing u n e) in
+    let (f, q) = told .gone (c .if2 .taken) in
+    cut-undone k _ _ z e n f q (told .newest (c .if2 .taken))
 
 returns-3 : tie.Need-returns-3
 returns-3 c = λ k z u.

@@ -9,23 +9,31 @@ use Rattle.piling_form.proofs.form.Tie as tie
 -- places on the way
 
 abbrev start : tie.After-lead → tie.Start
-start c = c .before .before .before .before .before
+start c = c .before .before .before .before .before .before
 
 form-of-requires : tie.Need-form-of-requires
 form-of-requires c κs =
-    let s = start c in (
+    let l = c .before in
+    let s = start l in (
       s .pre .0,
       s .pre .1,
       record {
         wide = s .pre .2;
-        deep = omega (arith, s .pre .1 .short, c .before .before .blank-lead .ensures);
+        deep = omega (arith, s .pre .1 .short, l .before .before .blank-lead .ensures);
       },
+      s .pre .3,
     )
 
 returns : tie.Need-returns
-returns c = λ k p. form-starts (c .before .before .before .form-of .ensures k p)
+returns c =
+    let f = c .before .before .before .before .before in
+    (λ k p. form-starts (f .form-of .ensures .0 k p), f .form-of .ensures .1)
 
 pub form-spec : {M : Type 1} → statement M
 form-spec =
     tie.close
-    (tie.spec (λ c κs. search needs) (λ c. search needs) form-of-requires (λ c. search needs) returns)
+    (tie.spec
+    (λ c κs. search needs) (λ c. search needs)
+    form-of-requires
+    (λ c. search needs) (λ c. search needs)
+    returns)
