@@ -1,12 +1,14 @@
 // The library's answers to the calls, as words; the crate cases_report says how.
 
-ghost use Prim.Native.Nat.{_<_};
+ghost use Prim.Native.Nat.{_<_, _≤_};
 use cases_report::checked;
 use cases_report::compared;
 use cases_report::formed;
 use cases_report::found;
 use cases_report::joined;
+use cases_report::paired;
 use cases_report::read;
+use cases_report::second_area;
 use cases_report::written;
 use cases_solver::Word;
 use cases_solver::at;
@@ -32,9 +34,22 @@ fn conflict(c: &[u8], v: &[u8]) -> Word {
     read(answer, rows[row(at(v, 0))][row(at(v, 1))])
 }
 
-fn normal(c: &[u8], v: &[u8], area: &mut [u8]) -> Word {
-    let mut pairs = [0u16; 1100];
-    formed(busplan::normal_form(c, v, area, &mut pairs), area)
+// The normal form, with a second area of so many numbers.
+fn normal(c: &[u8], v: &[u8], area: &mut [u8], numbers: usize) -> Word
+    requires { ⌜ numbers ≤ 1100 ⌝ }
+{
+    let mut second = second_area();
+    let answer = busplan::normal_form(c, v, area, &mut second[0..numbers]);
+    formed(answer, area)
+}
+
+// Its pairs.
+fn pairs(c: &[u8], v: &[u8], area: &mut [u8], numbers: usize) -> Word
+    requires { ⌜ numbers ≤ 1100 ⌝ }
+{
+    let mut second = second_area();
+    let answer = busplan::normal_form(c, v, area, &mut second[0..numbers]);
+    paired(answer, &second)
 }
 
 // The lead-in must be one.
@@ -50,10 +65,21 @@ fn lead_in(c: &[u8], v: &[u8], w: &[u8], u: &[u8]) -> Word {
 }
 
 // The answer to a call by its letter.
-pub fn asked(call: u8, c: &[u8], v: &[u8], w: &[u8], u: &[u8], area: &mut [u8]) -> Word {
+pub fn asked(
+    call: u8,
+    c: &[u8],
+    v: &[u8],
+    w: &[u8],
+    u: &[u8],
+    area: &mut [u8],
+    numbers: usize,
+) -> Word
+    requires { ⌜ numbers ≤ 1100 ⌝ }
+{
     match call {
         b'r' => conflict(c, v),
-        b'n' => normal(c, v, area),
+        b'n' => normal(c, v, area, numbers),
+        b'p' => pairs(c, v, area, numbers),
         b'c' => written(busplan::core(c, v, area), area),
         b'e' => compared(busplan::equal(c, v, w)),
         b'l' => loops(c, v, w, area),

@@ -4,6 +4,7 @@
 
 mod ask;
 
+ghost use Prim.Native.Nat.{_≤_};
 ghost use mathlib.Core.Path.{_≡_};
 ghost use lib.ListN.{length};
 ghost use Rattle.io.specs.Counts.{Counts};
@@ -12,6 +13,7 @@ use cases_solver::at;
 use cases_table::AREA;
 use cases_table::CATALOGUE;
 use cases_table::NAME;
+use cases_table::SECOND;
 use cases_table::U;
 use cases_table::V;
 use cases_table::W;
@@ -35,6 +37,13 @@ fn within(n: usize, bytes: &[u8]) -> usize
     bytes.len()
 }
 
+// So many numbers, but no more than the second area has.
+fn numbers(n: usize) -> usize
+    ensures { λ r. ⌜ r ≤ 1100 ⌝ }
+{
+    if n < 1100 { n } else { 1100 }
+}
+
 // Puts a question to library and solver, and prints both answers if it has a name; do they agree.
 fn put(q: &[u8]) -> bool {
     let c = part(q, CATALOGUE);
@@ -43,8 +52,9 @@ fn put(q: &[u8]) -> bool {
     let u = part(q, U);
     let mut area = blank();
     let n = within(cases_table::size(q, AREA), &area);
-    let theirs = solved(call(q), c, v, w, u, n);
-    let ours = ask::asked(call(q), c, v, w, u, &mut area[..n]);
+    let m = numbers(cases_table::size(q, SECOND));
+    let theirs = solved(call(q), c, v, w, u, n, m);
+    let ours = ask::asked(call(q), c, v, w, u, &mut area[..n], m);
     cases_report::answers(part(q, NAME), call(q), ours, theirs)
 }
 
@@ -61,21 +71,21 @@ fn table(text: &[u8]) {
     cases_report::count(agree, cases, b" cases agree\n");
 }
 
-// Plan number p of four bytes, in normal form and core, or the loops of pair number p of two bytes each.
-fn agree(pairs: bool, p: usize) -> bool {
-    if pairs {
+// Plan number p of four bytes, in normal form, pairs and core, or the loops of two plans of two bytes each, number p.
+fn agree(two: bool, p: usize) -> bool {
+    if two {
         put(&small(b'l', p, W))
     } else {
-        put(&small(b'n', p, V)) && put(&small(b'c', p, V))
+        put(&small(b'n', p, V)) && put(&small(b'p', p, V)) && put(&small(b'c', p, V))
     }
 }
 
-// Every plan of four bytes, or every pair of plans of two.
-fn every(pairs: bool, what: &[u8]) {
+// Every plan of four bytes, or every two plans of two.
+fn every(two: bool, what: &[u8]) {
     let mut count: usize = 0;
     let mut p: usize = 0;
     while p < 6561 {
-        count += agree(pairs, p) as usize;
+        count += agree(two, p) as usize;
         p += 1;
     }
     cases_report::count(count, p, what);
@@ -85,6 +95,6 @@ fn main() {
     let mut text = io::buffer();
     let n = io::read_full(0, &mut text);
     table(&text[..n]);
-    every(false, b" plans of 4 bytes agree, in normal form and core\n");
+    every(false, b" plans of 4 bytes agree, in form, pairs and core\n");
     every(true, b" pairs of plans of 2 bytes agree, joined or apart\n");
 }

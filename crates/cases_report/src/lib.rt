@@ -1,8 +1,9 @@
 // The answers to the bench cases, of the library and of the solver, and how they are printed. An answer is a word: a
-// normal form or a core behind its length, a verdict (1 for yes, 0 for no, 2 for a yes that is not borne out) or a
-// refusal as the crate cases_solver has it.
+// normal form or a core behind its length, the pairs of a normal form (pairs.rt says how), a verdict (1 for yes, 0 for
+// no, 2 for a yes that is not borne out) or a refusal as the crate cases_solver has it.
 
 mod library;
+mod pairs;
 mod printing;
 mod solver;
 
@@ -12,8 +13,13 @@ pub use library::formed;
 pub use library::found;
 pub use library::joined;
 pub use library::lead_in;
+pub use library::paired;
 pub use library::read;
+pub use library::refused;
 pub use library::written;
+pub use pairs::Numbers;
+pub use pairs::kept;
+pub use pairs::second_area;
 pub use printing::answers;
 pub use printing::count;
 pub use solver::solved;

@@ -1,5 +1,9 @@
 // What the library answers.
 
+use crate::pairs::Numbers;
+use crate::pairs::first_pairs;
+use crate::pairs::kept;
+use crate::pairs::marked;
 use crate::solver::verdict;
 use cases_solver::Word;
 use cases_solver::at;
@@ -14,7 +18,7 @@ use spec::NormalForm;
 use spec::Refusal;
 use spec::Written;
 
-fn refused(refusal: Refusal) -> Word {
+pub fn refused(refusal: Refusal) -> Word {
     let reason = refusal.reason;
     cases_solver::refusal(call_codes::number(reason), refusal.plan, refusal.place)
 }
@@ -52,6 +56,16 @@ pub fn formed(answer: NormalForm, area: &[u8]) -> Word {
     match answer {
         NormalForm::Written { length, pairs: _ } => letters(area, length),
         NormalForm::Refused(refusal) => refused(refusal),
+    }
+}
+
+// Of the pairs of a normal form, with all numbers of the second area.
+pub fn paired(answer: NormalForm, numbers: &Numbers) -> Word {
+    match answer {
+        NormalForm::Written { length: _, pairs } => {
+            marked(first_pairs(numbers, pairs), kept(numbers, pairs))
+        }
+        NormalForm::Refused(refusal) => marked(refused(refusal), kept(numbers, 0)),
     }
 }
 

@@ -1,5 +1,6 @@
 // Printing: answers, each behind a space and letters as the manual writes them, and counts.
 
+ghost use Prim.Native.Nat.{_<_};
 use cases_solver::Word;
 use cases_solver::at;
 use cases_solver::same;
@@ -39,12 +40,44 @@ fn word(form: Word) {
     }
 }
 
+// The number in two bytes of an answer, from place k on.
+fn place(answer: Word, k: usize)
+    requires { ⌜ k < 64 ⌝ }
+{
+    number(256 * (at(&answer, k) as usize) + at(&answer, k + 1) as usize);
+}
+
+// Whether all was kept that was to be.
+fn kept(answer: Word) {
+    if at(&answer, 59) != 0 {
+        text(b", but a number to be kept has changed");
+    }
+}
+
+// The pairs of a normal form, as 1-4 each.
+fn pairs(answer: Word) {
+    let n = at(&answer, 0) as usize;
+    if n == 0 {
+        text(b" none");
+    }
+    let mut i: usize = 0;
+    while i < 14 && i < n {
+        byte(b' ');
+        place(answer, 4 * i + 1);
+        byte(b'-');
+        place(answer, 4 * i + 3);
+        i += 1;
+    }
+    kept(answer);
+}
+
 fn refusal(answer: Word) {
     text(b" refused");
     signed(at(&answer, 63));
     signed(at(&answer, 62));
     byte(b' ');
-    number(256 * (at(&answer, 60) as usize) + at(&answer, 61) as usize);
+    place(answer, 60);
+    kept(answer);
 }
 
 fn yes(call: u8) {
@@ -80,6 +113,8 @@ fn answer(call: u8, answer: Word) {
         refusal(answer);
     } else if call == b'n' || call == b'c' {
         word(answer);
+    } else if call == b'p' {
+        pairs(answer);
     } else {
         verdict(call, at(&answer, 0));
     }

@@ -4,6 +4,7 @@
 mod catalogue;
 mod conjugacy;
 mod form;
+mod pairing;
 mod refusals;
 mod word;
 
@@ -12,14 +13,17 @@ pub use conjugacy::core;
 pub use conjugacy::joined;
 pub use conjugacy::leads;
 pub use form::normal_form;
+pub use pairing::pairs;
 pub use refusals::or;
 pub use refusals::refusal;
 pub use refusals::refusal_of_catalogue;
 pub use refusals::refusal_of_form;
 pub use refusals::refusal_of_loops;
+pub use refusals::refusal_of_normal_form;
 pub use refusals::refusal_of_three;
 pub use word::Word;
 pub use word::at;
 pub use word::blank;
 pub use word::same;
+pub use word::undo;
 pub use word::with;

@@ -105,15 +105,32 @@ fn small_area(room: usize, commands: usize, bytes: usize) -> Word {
     }
 }
 
+// Line 12, for a second area of so many numbers.
+fn small_second(numbers: usize, bytes: usize) -> Word {
+    if numbers < bytes {
+        refusal(12, 0, 1)
+    } else {
+        blank()
+    }
+}
+
 // Of a catalogue.
 pub fn refusal_of_catalogue(c: &[u8]) -> Word {
     refused(c, b"", 1, 7, 0)
 }
 
-// Of a normal form or a core.
+// Of a core.
 pub fn refusal_of_form(c: &[u8], plan: &[u8], room: usize) -> Word {
     let first = or(refusal_of_catalogue(c), refused(c, plan, 7, 9, 1));
     or(first, small_area(room, 1, plan.len()))
+}
+
+// Of a normal form, whose second area has room for so many numbers.
+pub fn refusal_of_normal_form(c: &[u8], plan: &[u8], room: usize, numbers: usize) -> Word {
+    or(
+        refusal_of_form(c, plan, room),
+        small_second(numbers, plan.len()),
+    )
 }
 
 // Of two plans, whatever the area.

@@ -16,15 +16,15 @@ fn byte(d: usize) -> u8
 
 // Two more bytes in a part, those of number p.
 fn two(q: Question, part: usize, p: usize) -> Question
-    requires { ⌜ part < 6 ⌝ }
+    requires { ⌜ part < 7 ⌝ }
 {
     pushed(pushed(q, part, byte(p % 9)), part, byte(p / 9 % 9))
 }
 
 // A call under K on the four bytes of number p: two in v, and two more in v or w.
 pub fn small(letter: u8, p: usize, part: usize) -> Question
-    requires { ⌜ part < 6 ⌝ }
+    requires { ⌜ part < 7 ⌝ }
 {
-    let under = with(read(b"\n", 0), 19, letter);
+    let under = with(read(b"\n", 0), 20, letter);
     two(two(under, V, p), part, p / 81)
 }

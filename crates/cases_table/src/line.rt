@@ -1,11 +1,13 @@
 // Reading a line of the table: a name, ":", a call and the plans, with ";" between them. "@" brings the bytes of the
-// area, "#" another catalogue than K. −3 is byte 131, and "0 x5" is five zeros.
+// area, and after ";" the numbers of the second one; "#" brings another catalogue than K. −3 is byte 131, and "0 x5" is
+// five zeros.
 
 ghost use Prim.Native.Nat.{_<_, _≤_};
 use crate::AREA;
 use crate::CATALOGUE;
 use crate::NAME;
 use crate::Question;
+use crate::SECOND;
 use crate::V;
 use crate::blank;
 use crate::pushed;
@@ -36,7 +38,7 @@ fn byte(mark: u8, value: usize) -> u8 {
 
 // A number behind a mark, taken into a part: one byte more, or after "x" so many in all.
 fn taken(q: Question, part: usize, mark: u8, value: usize) -> Question
-    requires { ⌜ part < 6 ⌝ }
+    requires { ⌜ part < 7 ⌝ }
 {
     if mark == b'x' {
         sized(q, part, value)
@@ -47,19 +49,19 @@ fn taken(q: Question, part: usize, mark: u8, value: usize) -> Question
 
 // Opens a part: it begins empty, and the letter behind its mark is kept at place 14 + part.
 fn opened(q: Question, part: usize, letter: u8) -> Question
-    requires { ⌜ part < 6 ⌝ }
+    requires { ⌜ part < 7 ⌝ }
 {
     with(sized(q, part, 0), 14 + part, letter)
 }
 
 // The part that a mark opens, or else the part that is open.
 fn part_of(mark: u8, part: usize) -> usize
-    requires { ⌜ part < 6 ⌝ }
-    ensures { λ r. ⌜ r < 6 ⌝ }
+    requires { ⌜ part < 7 ⌝ }
+    ensures { λ r. ⌜ r < 7 ⌝ }
 {
     match mark {
         b':' => V,
-        b';' => (part + 1) % 6,
+        b';' => (part + 1) % 7,
         b'@' => AREA,
         b'#' => CATALOGUE,
         _ => part,
@@ -68,7 +70,7 @@ fn part_of(mark: u8, part: usize) -> usize
 
 // A letter of the name, or a number that begins behind a mark.
 fn kept(q: Question, part: usize, text: &[u8], i: usize) -> Question
-    requires { ⌜ part < 6 ⌝ }
+    requires { ⌜ part < 7 ⌝ }
     requires { ⌜ i < 4096 ⌝ }
 {
     let mark = at(text, i);
@@ -83,7 +85,7 @@ fn kept(q: Question, part: usize, text: &[u8], i: usize) -> Question
 
 // One more character of a line, in this part.
 fn step(q: Question, before: usize, part: usize, text: &[u8], i: usize) -> Question
-    requires { ⌜ part < 6 ⌝ }
+    requires { ⌜ part < 7 ⌝ }
     requires { ⌜ i < 4096 ⌝ }
 {
     if part == before {
@@ -108,11 +110,12 @@ fn line(q: Question, text: &[u8], start: usize) -> Question {
     read
 }
 
-// The question on the line at a place. The catalogue is K, with conflicts 1-2, 2-3, 3-4, and the area large enough for
+// The question on the line at a place. The catalogue is K, with conflicts 1-2, 2-3, 3-4, and the areas large enough for
 // any case, unless the line has others.
 pub fn read(text: &[u8], start: usize) -> Question {
-    let q = line(sized(blank(), AREA, 1100), text, start);
-    if at(&q, 17) == 0 {
+    let lent = sized(sized(blank(), AREA, 1100), SECOND, 1100);
+    let q = line(lent, text, start);
+    if at(&q, 14 + CATALOGUE) == 0 {
         line(q, b"# 4 3 1 2 3 0 2 0 3 0 4 0\n", 0)
     } else {
         q

@@ -7,10 +7,10 @@ use Rattle.cases.proofs.every.Statement.{statement}
 use Rattle.cases.proofs.every.Tie as tie
 
 abbrev Inv-loop : tie.InvT-loop
-Inv-loop pairs what count₀ p₀ count p = count ≤ p
+Inv-loop two what count₀ p₀ count p = count ≤ p
 
 abbrev μ-loop : tie.MeasureT-loop
-μ-loop pairs what count₀ p₀ count p = 6561 - p
+μ-loop two what count₀ p₀ count p = 6561 - p
 
 add-count : tie.Need-add-count Inv-loop μ-loop
 add-count c = omega (arith, at-most-one (c .agree .result))

@@ -1,11 +1,11 @@
--- `line` is safe and ends: the measure is `4095 - i`, the invariant `part < 6`.
+-- `line` is safe and ends: the measure is `4095 - i`, the invariant `part < 7`.
 use Prim.Native.Nat.{_-_, _<_}
 use borrow.Author.Needs.{needs}
 use Rattle.cases_table.proofs.line.line.Statement.{statement}
 use Rattle.cases_table.proofs.line.line.Tie as tie
 
 abbrev Inv-loop : tie.InvT-loop
-Inv-loop text start read₀ part₀ i₀ read part i = part < 6
+Inv-loop text start read₀ part₀ i₀ read part i = part < 7
 
 abbrev μ-loop : tie.MeasureT-loop
 μ-loop text start read₀ part₀ i₀ read part i = 4095 - i
