@@ -15,15 +15,12 @@ use Rattle.theory_words.specs.TraceLaws.{not-first-nil, not-first-cons}
 use Rattle.theory_words.specs.GroupLaws.{dep-inv}
 use Rattle.theory_words.specs.Reduce.{act}
 use Rattle.theory_words.specs.ReduceLaws.{cut, put, act-is}
-use Rattle.spec_laws.specs.TableLaws.{none-some}
+use Rattle.spec_laws.specs.TableLaws.{some-same, none-some}
 use Rattle.spec.specs.Conflict.{conflict}
 use Rattle.spec.specs.Byte.{commandOf, undone}
 use Rattle.spec.specs.Letters.{alphabet}
 use Rattle.spec.specs.Answers.{yesNo}
 use Rattle.spec.specs.Pairs.{Placed, placed, bytesOf, placesOf, Partner, partner-step, partner, leftAfter, count}
-
-some-partner : {p q : Partner} → some p ≡ some q → p ≡ q
-some-partner e = cc
 
 module _ (c : List ℕ) where
   -- b meets its undo at place p of t, behind letters that do not conflict with b, and r is left
@@ -75,7 +72,7 @@ module _ (c : List ℕ) where
   partner-met b t q e = go (sought b t) e
     where
       go : {o : Option Partner} → Sought b t o → o ≡ some q → Met b t (q .place) (q .rest)
-      go (met {q = p} m) k = subst (λ x. Met b t (x .place) (x .rest)) (some-partner k) m
+      go (met {q = p} m) k = subst (λ x. Met b t (x .place) (x .rest)) (some-same k) m
       go (unmet n) k = absurd (none-some k)
 
   pub first-alone : (b : ℕ) (t : List Placed) → ¬ First (alphabet c) (undone b) (bytesOf t) → partner c b t ≡ none

@@ -7,7 +7,7 @@ use mathlib.Core.Logic.{_↔_}
 use native.Mathlib.Omega.{arith}
 use Rattle.spec.specs.Table.{Line, firstLine, NoneHolds, FirstHolds, now, later}
 
-pub some-same : {a b : Line} → some a ≡ some b → a ≡ b
+pub some-same : {A : Type 0} {a b : A} → some a ≡ some b → a ≡ b
 some-same e = cc
 
 pub none-some : {A : Type 0} {a : A} → none ≡ some a → ⊥
