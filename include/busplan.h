@@ -71,11 +71,14 @@ enum busplan_refusal {
     BUSPLAN_ENDLESS_CHAIN = 5,  /* a command whose chain doesn't end */
     BUSPLAN_OWN_CHAIN = 6,      /* a command that stands in its own chain */
     BUSPLAN_PLAN_SIZE = 7,      /* a plan over 1,024 bytes (a lead-in over 49,152) */
-    BUSPLAN_PLAN_BYTE = 8,      /* a byte that is not 0, 1 to N or 129 to 128 + N */
+    BUSPLAN_PLAN_BYTE = 8,      /* a byte that is not 0, 1 to N or 129 to 128 + N; in a text a command above N */
     BUSPLAN_AREA_SIZE = 9,      /* an area smaller than the call asks for */
     BUSPLAN_UNSETTLED = 10,     /* a part of a core is unsettled after N rounds; proved never to be returned */
     BUSPLAN_FRAMING = 11,       /* the input of the program loops is badly framed; no call returns it */
-    BUSPLAN_PAIRS_SIZE = 12     /* from Rattle alone: too little room for the places of the letters that cancelled */
+    BUSPLAN_PAIRS_SIZE = 12,    /* from Rattle alone: too little room for the places of the letters that cancelled */
+    BUSPLAN_TEXT = 13,          /* a text that is not in the notation */
+    BUSPLAN_NESTING = 14,       /* a text whose brackets nest deeper than 8 */
+    BUSPLAN_WRITTEN_SIZE = 15   /* a text whose plan, written out, is over 1,024 bytes */
 };
 
 /* What a call's answer says if it is a refusal, in English, without the plan and the place. */
@@ -88,11 +91,14 @@ static inline const char *busplan_refusal_text(int64_t answer) {
     case -BUSPLAN_ENDLESS_CHAIN: return "the catalogue has a command whose chain doesn't end";
     case -BUSPLAN_OWN_CHAIN: return "the catalogue has a command that stands in its own chain";
     case -BUSPLAN_PLAN_SIZE: return "a plan is over 1,024 bytes, or a lead-in over 49,152";
-    case -BUSPLAN_PLAN_BYTE: return "a plan has a byte that is no command, no undo and no filler";
+    case -BUSPLAN_PLAN_BYTE: return "a plan has a byte that is no command, undo or filler, or a text a command above N";
     case -BUSPLAN_AREA_SIZE: return "an area is smaller than the call asks for";
     case -BUSPLAN_UNSETTLED: return "a part of a core is unsettled after N rounds";
     case -BUSPLAN_FRAMING: return "the input is badly framed";
     case -BUSPLAN_PAIRS_SIZE: return "there is too little room for the places of the letters that cancelled";
+    case -BUSPLAN_TEXT: return "a text is not in the notation";
+    case -BUSPLAN_NESTING: return "a text has brackets that nest deeper than 8";
+    case -BUSPLAN_WRITTEN_SIZE: return "the plan of a text is over 1,024 bytes when it is written out";
     default: return answer < 0 ? "no refusal of this library" : "not refused";
     }
 }

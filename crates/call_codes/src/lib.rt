@@ -34,6 +34,9 @@ pub fn number(reason: Reason) -> u8
         Reason::Unsettled => 10,
         Reason::Framing => 11,
         Reason::PairsSize => 12,
+        Reason::Text => 13,
+        Reason::Nesting => 14,
+        Reason::WrittenSize => 15,
     }
 }
 

@@ -11,6 +11,7 @@ use mathlib.Core.Logic.{_↔_, _⊎_}
 use lib.ListN.{length, take, drop, getD}
 use Rattle.spec.specs.Table.{Line, line, Answer, refused, given, firstLine, orElse, orKept, NoneHolds, FirstHolds}
 use Rattle.spec.specs.Catalogue.{commands, countLine, catalogueLines}
+use Rattle.spec.specs.Plan.{planLines}
 use Rattle.spec.specs.Conflict.{conflict, Conflicting}
 use Rattle.spec.specs.Byte.{undone, undoOf}
 use Rattle.spec.specs.Step.{Command, Equal}
@@ -19,11 +20,14 @@ use Rattle.spec.specs.Join.{Joins}
 use Rattle.spec.specs.Core.{Swaps, Least, CyclicallyReduced, TakenOff}
 use Rattle.spec.specs.Answers.{yesNo, FormCounts, CheckedLeadIn}
 use Rattle.spec.specs.Pairs.{pairNumbers, Accounts}
-use Rattle.spec.specs.Calls.{normalFormAnswer, normalFormArea, coreForm, coreAnswer, coreArea}
+use Rattle.spec.specs.Calls.{planLimit, normalFormAnswer, normalFormArea, coreForm, coreAnswer, coreArea}
 use Rattle.spec.specs.Calls.{catalogueAnswer, catalogueTable, normalFormLines, equalLines, equalAnswer}
 use Rattle.spec.specs.Calls.{pairedLines, pairedAnswer, pairedArea, pairedNumbers}
 use Rattle.spec.specs.Loops.{loopsLines, Looped, LeadIn, checkLines, checkAnswer}
 use Rattle.spec.specs.Fault.{faultLines, faultAnswer}
+use Rattle.spec.specs.Notation.{Items, Text, Wrong, planOf, sizeOf, nestingOf}
+use Rattle.spec.specs.WriteOut.{itemsOf, textLine, nestingLine, textFault}
+use Rattle.spec.specs.WriteOut.{writeOutLines, writeOutAnswer, writeOutArea}
 use Rattle.spec.specs.Framing.{Framed, wellFramed, catalogueOf, plan1Of, plan2Of}
 use Rattle.spec.specs.Listing.{Printed}
 use Rattle.spec.specs.Program.{programLines, programAnswer}
@@ -125,6 +129,27 @@ pub record FaultDemand : Type 0 where
   pub equal : (c v w : List ℕ) → Explains c v w [] (equalLines c v w)
   pub loops : (c v w area : List ℕ) → Explains c v w [] (loopsLines c v w area)
   pub check : (c v w u area0 area1 : List ℕ) → Explains c v w u (checkLines c v w u area0 area1)
+
+-- The notation. A text has one reading at most. Line 13 refuses it at place i exactly if it is wrong there, and does
+-- not exactly if it has a reading, which the call then takes; line 14 does not exactly if its brackets nest 8 deep at
+-- most. A plan has the length that its size tells. Of a text that is not refused, the first L bytes of the area are the
+-- plan that it writes out, and past them the area is as it was; lines 7 and 8 let that plan pass. What is told as wrong
+-- with a catalogue and a text is what the call is refused for; where nothing is, it is refused for the area or not at
+-- all.
+pub record NotationDemand : Type 0 where
+  pub one-reading : (s : List ℕ) (t u : Items) → Text s t → Text s u → t ≡ u
+  pub wrong : (s : List ℕ) (i : ℕ) → (textLine s ≡ some (line 13 1 i)) ↔ Wrong s i
+  pub text : (s : List ℕ) → (textLine s ≡ none) ↔ ((t : Items) × Text s t)
+  pub taken : (s : List ℕ) (t : Items) → Text s t → itemsOf s ≡ t
+  pub nesting : (s : List ℕ) (t : Items) → Text s t → (nestingLine s ≡ none) ↔ (nestingOf t ≤ 8)
+  pub size : (t : Items) → length (planOf t) ≡ sizeOf t
+  pub write-out : (c s area : List ℕ) (l : ℕ) → writeOutAnswer c s area ≡ given l
+      → (t : Items) × Text s t × (length (take l (writeOutArea c s area)) ≡ l)
+      × (take l (writeOutArea c s area) ≡ planOf t) × (drop l (writeOutArea c s area) ≡ drop l area)
+      × NoneHolds (planLines 1 planLimit (commands c) (planOf t))
+  pub fault : (c s area : List ℕ) (l : Line) → textFault c s ≡ some l → FirstHolds l (writeOutLines c s area)
+  pub else-area : (c s area : List ℕ) → textFault c s ≡ none → (l : Line) → FirstHolds l (writeOutLines c s area)
+      → l ≡ line 9 0 0
 
 -- The program's input is computed to be well framed exactly if it is some catalogue and two plans, well framed, and
 -- then those are the parts that are computed.

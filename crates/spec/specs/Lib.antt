@@ -15,9 +15,13 @@ pub mod Pairs
 pub mod Calls
 pub mod Loops
 pub mod Fault
+pub mod Notation
+pub mod Scanner
+pub mod WriteOut
 pub mod Codes
 pub mod Framing
 pub mod Listing
 pub mod Program
 pub mod Cases
+pub mod TextCases
 pub mod Demands

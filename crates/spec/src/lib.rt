@@ -16,6 +16,9 @@ pub enum Reason {
     Unsettled,
     Framing,
     PairsSize,
+    Text,
+    Nesting,
+    WrittenSize,
 }
 
 // plan is 1, 2 or 3 in the order given, and 0 for the catalogue; place counts from 0.
