@@ -9,7 +9,8 @@ use lib.ListN.{length, getD}
 use lib.Dec.{ltb, eqb}
 use borrow.Author.Tests.{lt-ltb, le-ltb, eq-eqb, ne-eqb, ltb-false, eqb-true, eqb-false, not-false}
 use Rattle.theory_words.specs.BoolLaws.{or-neither}
-use Rattle.spec.specs.Table.{Line, line, refused, orElse, holds, lineAt}
+use Rattle.spec.specs.Table.{Line, line, refused, orElse, holds}
+use Rattle.spec_laws.specs.TableLaws.{none-at}
 use Rattle.input_catalogue.specs.Checked.{toldChecked}
 use Rattle.spec_laws.specs.SearchLaws.{search-none, passed-line, refused-line}
 use Rattle.spec.specs.declared.Refusal.{Refusal}
@@ -92,10 +93,6 @@ none-held : (p q : Bool) (k l : Line) → orIf (holds p k) (holds q l) ≡ none 
 none-held false false k l e = (refl, refl)
 none-held false true k l e = absurd (some-none e)
 none-held true q k l e = absurd (some-none e)
-
-none-at : (n p : ℕ) (f : ℕ → ℕ) (o : Option ℕ) → lineAt n p f o ≡ none → o ≡ none
-none-at n p f none e = refl
-none-at n p f (some i) e = absurd (some-none e)
 
 module _ (c : List ℕ) where
   pub framed-from : frameLine c ≡ none → Framed c

@@ -27,7 +27,7 @@ module _ {A : Type 0} where
   answer-given none a b e = (refl, cc)
   answer-given (some k) a b e = absurd (let z : _≡_ {A = ℕ} 0 1 = cc in omega arith)
 
-holds-none : (t : Bool) (l : Line) → holds t l ≡ none → t ≡ false
+pub holds-none : (t : Bool) (l : Line) → holds t l ≡ none → t ≡ false
 holds-none true l e = absurd (let z : _≡_ {A = ℕ} 0 1 = cc in omega arith)
 holds-none false l e = refl
 

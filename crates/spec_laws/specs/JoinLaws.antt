@@ -37,7 +37,7 @@ module _ (c : List ℕ) where
       go (inl z) = rw (eqb-true b 0 z) (passes-low (commands c) 0 (omega arith))
       go (inr k) = command-passes (commands c) (undone b) (isCommand-undone (commands c) b ∙ k)
 
-  undone-passing : (u v : List ℕ) → Passing (commands c) u → Passing (commands c) v
+  pub undone-passing : (u v : List ℕ) → Passing (commands c) u → Passing (commands c) v
       → Passing (commands c) (undoOf u ++ v)
   undone-passing u v h k = rw (undo-onto undone u v) at (onto u v h k)
     where

@@ -15,6 +15,10 @@ none-not e = let z : _≡_ {A = ℕ} 0 1 = cc in omega arith
 pub given-not : {A : Type 0} {a : A} {l : Line} → given a ≡ refused l → ⊥
 given-not e = let z : _≡_ {A = ℕ} 0 1 = cc in omega arith
 
+pub found-step-none : (b : Bool) (i : ℕ) {o : Option ℕ} → found-step b i o ≡ none → (b ≡ false) × (o ≡ none)
+found-step-none true i e = absurd (none-not e)
+found-step-none false i e = (refl, e)
+
 module _ (p : ℕ → Bool) where
   -- a search of n numbers from s has come to i and passed all before it
   pub record Searching (n s i : ℕ) : Type 0 where
@@ -46,10 +50,6 @@ module _ (p : ℕ → Bool) where
   search-end {n} {s} {i} g h =
       let e : s + n - i ≡ 0 = omega arith in
       g .rest ∙ ap (λ k. firstOf p k i) e
-
-  found-step-none : (b : Bool) (i : ℕ) {o : Option ℕ} → found-step b i o ≡ none → (b ≡ false) × (o ≡ none)
-  found-step-none true i e = absurd (none-not e)
-  found-step-none false i e = (refl, e)
 
   -- a search that finds nothing has seen every number fail
   pub search-none : (n s : ℕ) → firstOf p n s ≡ none → (i : ℕ) → s ≤ i → i < s + n → p i ≡ false

@@ -5,13 +5,18 @@ use mathlib.Core.List.{List, [], _∷_, _++_}
 use mathlib.Core.Option.{Option, none, some}
 use mathlib.Core.Logic.{_↔_}
 use native.Mathlib.Omega.{arith}
-use Rattle.spec.specs.Table.{Line, firstLine, NoneHolds, FirstHolds, now, later}
+use Rattle.spec.specs.Table.{Line, firstLine, lineAt, NoneHolds, FirstHolds, now, later}
 
 pub some-same : {A : Type 0} {a b : A} → some a ≡ some b → a ≡ b
 some-same e = cc
 
 pub none-some : {A : Type 0} {a : A} → none ≡ some a → ⊥
 none-some e = let z : _≡_ {A = ℕ} 0 1 = cc in omega arith
+
+-- a line for something found, where nothing was
+pub none-at : (n p : ℕ) (f : ℕ → ℕ) (o : Option ℕ) → lineAt n p f o ≡ none → o ≡ none
+none-at n p f none e = refl
+none-at n p f (some i) e = absurd (none-some (sym e))
 
 -- the first line that holds in two lists, one after the other
 pub first-early : (xs ys : List (Option Line)) {l : Line} → firstLine xs ≡ some l → firstLine (xs ++ ys) ≡ some l

@@ -1,0 +1,1 @@
+// The laws of the notation. There is no code here: see specs/.
