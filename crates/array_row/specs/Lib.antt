@@ -1,6 +1,7 @@
 pub mod CompareLaws
 pub mod Row
 pub mod RowLaws
+pub mod AppendLaws
 pub mod UndoLaws
 pub mod Area
 pub mod AreaLaws

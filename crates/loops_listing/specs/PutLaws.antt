@@ -2,12 +2,12 @@
 use Prim.Native.Nat.{ℕ, _+_, _-_, _^_, _≤_, _<_}
 use native.Mathlib.Omega.{arith}
 use native.Mathlib.Nat.{pow-le-pow-right}
-use mathlib.Core.Path.{_≡_, refl, sym, _∙_, ap, ap₂, subst}
+use mathlib.Core.Path.{_≡_, refl, sym, subst}
 use mathlib.Core.Bool.{Bool, true, false}
 use mathlib.Core.Option.{Option, some, none}
-use mathlib.Core.List.{List, _++_, append-assoc}
-use lib.ListN.{length, take, drop, length-append}
-use lib.Seq.{length-take-le, drop-drop, drop-append-add}
+use mathlib.Core.List.{List, _++_}
+use lib.ListN.{length, take, length-append}
+use lib.Seq.{length-take-le}
 use lib.Dec.{leb}
 use borrow.Author.Tests.{leb-true, leb-false}
 use mir.Syntax.{w64}
@@ -17,30 +17,10 @@ use Rattle.io.specs.Digits.{Fewest}
 use Rattle.spec.specs.Table.{Line, Answer, given, refused}
 use Rattle.array_row.specs.Row.{Appended}
 use Rattle.array_row.specs.RowLaws.{appended-take, appended-length}
+use Rattle.array_row.specs.AppendLaws.{appended-then}
 use Rattle.spec.specs.declared.Verdict.{Verdict}
 use Rattle.spec.specs.Listing.{bytes, Decimal, Shows, joined, apart, refuses, Printed, printed, toldVerdict}
 use Rattle.loops_listing.specs.Put.{Put}
-
-pub appended-then : {before mid after x y : List ℕ} {at end last : ℕ} → Appended before at x mid end
-    → Appended mid end y after last → end ≤ length before → Appended before at (x ++ y) after last
-appended-then {before} {mid} {after} {x} {y} {at} {end} {last} a b h = record {
-  ends = omega (arith, a .ends, b .ends, length-append x y);
-  bytes =
-      b .bytes
-      ∙ ap₂ (λ p q. p ++ y ++ q) (appended-take a h) rest
-      ∙ ap (λ p. p ++ drop last before) (append-assoc (take at before) x y);
-}
-  where
-    size : length (take at before ++ x) ≡ end
-    size = omega (arith, length-append (take at before) x, length-take-le at before (omega (arith, a .ends)), a .ends)
-
-    rest : drop last mid ≡ drop last before
-    rest =
-        ap (λ n. drop n mid) (b .ends ∙ ap (λ n. n + length y) (sym size))
-        ∙ ap (drop (length (take at before ++ x) + length y)) (a .bytes)
-        ∙ drop-append-add (take at before ++ x) (drop end before) (length y)
-        ∙ drop-drop (length y) end before
-        ∙ ap (λ n. drop n before) (sym (b .ends))
 
 -- a 64-bit number has at most 20 digits
 pub decimal-short : {n k : ℕ} → Fits w64 n → Fewest 10 1 n k → k ≤ 20
