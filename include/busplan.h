@@ -13,6 +13,15 @@
  * A plan is a string of bytes: k, 1 to N, does command k; 128 + k undoes it; 0 is a filler with no effect. A plan has
  * at most BUSPLAN_MAX_PLAN bytes, a lead-in handed in for checking at most BUSPLAN_MAX_LEAD_IN.
  *
+ * A text is a plan in the beacon team's notation, as it is typed: a sequence of items.
+ *   12            does command 12; a number from 1 to 24
+ *   (1 -2)3       a sequence in brackets, taken so often: 0 to 255 times, once where no number stands there
+ *   -12, -(1 2)3  undoes the command, or the whole repeated group: backwards, with each command undone
+ * The minus stands directly before its number or bracket, the count directly after its bracket. At least one blank
+ * (byte 32) stands between two items, and blanks may stand at either end of a sequence. No number has a leading zero,
+ * but the count 0 is allowed. Empty texts and empty brackets are the empty plan. Brackets nest at most
+ * BUSPLAN_MAX_NESTING deep, and the plan written out has at most BUSPLAN_MAX_PLAN bytes; a text may have any length.
+ *
  * Every call takes any bytes, of any length, and answers with a result of at least 0, or with minus the number of
  * exactly one refusal. It reads only what it is handed, keeps nothing between calls, and may be called from several
  * threads at once. Areas must not overlap anything else that is handed over. Bytes of an area past those written keep
@@ -32,12 +41,13 @@
 extern "C" {
 #endif
 
-#define BUSPLAN_VERSION "1.1.0"
+#define BUSPLAN_VERSION "1.2.0"
 
 #define BUSPLAN_MAX_COMMANDS 24
 #define BUSPLAN_MAX_PLAN 1024
 #define BUSPLAN_MAX_LEAD_IN 49152
 #define BUSPLAN_MAX_CATALOGUE 536 /* 2 + 24 + 2 * 255 */
+#define BUSPLAN_MAX_NESTING 8
 
 /* The room that each area must have at least, in bytes, from N and the byte counts of the plans, and the most that any
  * call asks for: an area of that size is never refused. */
@@ -45,9 +55,10 @@ extern "C" {
 #define BUSPLAN_LOOPS_ROOM(commands, v_size, w_size) ((size_t)(commands) * ((size_t)(v_size) + (size_t)(w_size)))
 #define BUSPLAN_CHECK_ROOM0(v_size, u_size) ((size_t)(v_size) + (size_t)(u_size))
 #define BUSPLAN_CHECK_ROOM1(u_size, w_size) ((size_t)(u_size) + (size_t)(w_size))
-#define BUSPLAN_MAX_FORM_ROOM 1024   /* BUSPLAN_MAX_PLAN */
-#define BUSPLAN_MAX_LOOPS_ROOM 49152 /* 24 * (1024 + 1024) */
-#define BUSPLAN_MAX_CHECK_ROOM 50176 /* 1024 + 49152, for either area */
+#define BUSPLAN_MAX_FORM_ROOM 1024      /* BUSPLAN_MAX_PLAN */
+#define BUSPLAN_MAX_LOOPS_ROOM 49152    /* 24 * (1024 + 1024) */
+#define BUSPLAN_MAX_CHECK_ROOM 50176    /* 1024 + 49152, for either area */
+#define BUSPLAN_MAX_WRITE_OUT_ROOM 1024 /* BUSPLAN_MAX_PLAN */
 
 /* The stack that each call needs at the most, in bytes. These are measured (docs/MEASUREMENTS.md) and rounded up, not
  * proved. A thread has needs of its own beside them: 16 kB more are enough with glibc. */
@@ -57,12 +68,15 @@ extern "C" {
 #define BUSPLAN_LOOPS_STACK 300000
 #define BUSPLAN_LEAD_IN_CHECK_STACK 300000
 #define BUSPLAN_FAULT_STACK 8000
+#define BUSPLAN_WRITE_OUT_STACK 8000
+#define BUSPLAN_TEXT_FAULT_STACK 8000
 #define BUSPLAN_STACK 300000 /* any of them */
 
 /* Why a call is refused: the first of these that holds, in this order, but 7 and 8 plan by plan: those of the first
- * plan come before those of the second. A call returns minus the number; busplan_fault tells the plan and the place. No
- * function here returns 12: it is of the normal form call from Rattle, which also tells the places of the letters that
- * cancelled with each other. */
+ * plan come before those of the second. For a text the order is 1 to 6, 13, 14, 8, 15, 9. A call returns minus the
+ * number; busplan_fault tells the plan and the place, and busplan_text_fault those of a text. No function here returns
+ * 12: it is of the normal form call from Rattle, which also tells the places of the letters that cancelled with each
+ * other. */
 enum busplan_refusal {
     BUSPLAN_CATALOGUE_SIZE = 1, /* catalogue under 2 bytes, or not 2 + N + 2R */
     BUSPLAN_COMMAND_COUNT = 2,  /* N above 24 */
@@ -152,6 +166,27 @@ int64_t busplan_fault(const uint8_t *catalogue, size_t catalogue_size,
                       const uint8_t *w, size_t w_size,
                       const uint8_t *u, size_t u_size,
                       uint64_t fault[2]);
+
+/* The plan that a text writes out: its items one after the other, a group as often as its count says. area: as many
+ * bytes as that plan has, and BUSPLAN_MAX_WRITE_OUT_ROOM are always enough. Returns the length of the plan, which
+ * stands at the start of it; it holds no filler, and every other call takes it. */
+int64_t busplan_write_out(const uint8_t *catalogue, size_t catalogue_size,
+                          const uint8_t *text, size_t text_size,
+                          uint8_t *area, size_t area_size);
+
+/* What is wrong with a catalogue and a text: the first of refusals 1 to 6, 13, 14, 8 and 15 that holds, in this order,
+ * as minus its number, and then fault[0] is 0 for the catalogue or 1 for the text, and fault[1] the place in it, which
+ * counts from 0. The places of a text are these:
+ *   13  the first byte after which no ending could mend the text; the text's length if it only stops too soon
+ *   14  the first opening bracket that nests deeper than 8
+ *   8   the first digit of the first command above N, whatever the counts of the groups are that it stands in
+ *   15  0
+ * Returns 0 if none holds, and fault keeps its contents. fault must point to two numbers.
+ * busplan_write_out with the same catalogue and text is refused for just this, and where 0 is returned it is refused
+ * for its area alone (9), if at all. */
+int64_t busplan_text_fault(const uint8_t *catalogue, size_t catalogue_size,
+                           const uint8_t *text, size_t text_size,
+                           uint64_t fault[2]);
 
 #ifdef __cplusplus
 }

@@ -60,6 +60,7 @@ specified() {
   limit 's/^countLine c = holds (ltb \([0-9]*\) .*/BUSPLAN_MAX_COMMANDS \1/p' crates/spec/specs/Catalogue.antt
   limit 's/^planLimit = /BUSPLAN_MAX_PLAN /p' crates/spec/specs/Calls.antt
   limit 's/^leadInLimit = /BUSPLAN_MAX_LEAD_IN /p' crates/spec/specs/Loops.antt
+  limit 's/^firstDeep d i (opening .*(leb \([0-9]*\) d).*/BUSPLAN_MAX_NESTING \1/p' crates/spec/specs/Notation.antt
 }
 
 limit() { sed -n "$1" "$2" | awk '{ print $1 "\t" $1 " " $2 }'; } # SCRIPT FILE: the script leaves a name and a number
@@ -69,7 +70,7 @@ declared() { # HEADER
   uncommented "$1" >"$out/uncommented"
   prototypes <"$out/uncommented"
   sed -n '/^enum busplan_refusal {/,/}/s/^ *\(BUSPLAN[A-Z_]*\) *= *\([0-9]*\).*/\1	\1 = \2/p' "$out/uncommented"
-  for largest in COMMANDS PLAN LEAD_IN; do
+  for largest in COMMANDS PLAN LEAD_IN NESTING; do
     limit "s/^#define \(BUSPLAN_MAX_$largest \)/\1/p" "$1"
   done
 }
@@ -136,7 +137,8 @@ compare() { # HEADER: says what differs, and fails if anything does
 }
 
 { exported; specified; } >"$out/source"
-for name in busplan_normal_form BUSPLAN_FRAMING BUSPLAN_MAX_COMMANDS BUSPLAN_MAX_PLAN BUSPLAN_MAX_LEAD_IN; do
+for name in busplan_normal_form BUSPLAN_FRAMING \
+  BUSPLAN_MAX_COMMANDS BUSPLAN_MAX_PLAN BUSPLAN_MAX_LEAD_IN BUSPLAN_MAX_NESTING; do
   if ! grep -q "^$name	" "$out/source"; then
     echo "header: $name is not found in the Rattle source" >&2
     exit 1
@@ -176,5 +178,7 @@ a refusal of another number|BUSPLAN_INDEX|s/BUSPLAN_INDEX = 3/BUSPLAN_INDEX = 4/
 a refusal renamed|BUSPLAN_PLACE|s/BUSPLAN_INDEX = 3/BUSPLAN_PLACE = 3/
 a refusal left out|BUSPLAN_FRAMING|/BUSPLAN_FRAMING = 11/d
 another limit|BUSPLAN_MAX_PLAN|s/^#define BUSPLAN_MAX_PLAN .*/#define BUSPLAN_MAX_PLAN 1023/
+another nesting|BUSPLAN_MAX_NESTING|s/^#define BUSPLAN_MAX_NESTING .*/#define BUSPLAN_MAX_NESTING 9/
+a call on texts left out|busplan_text_fault|/^int64_t busplan_text_fault(/,/;/d
 END
 echo "header: $(awk 'END { print NR }' "$out/source") names as in the Rattle source; $damages damaged copies caught"

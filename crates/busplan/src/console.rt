@@ -6,6 +6,7 @@ ghost use Rattle.spec.specs.Codes.{lengthCode, equalCode, LoopedCode, checkCode
 ghost use Rattle.spec.specs.Calls.{normalFormAnswer, normalFormArea, coreAnswer, coreArea, equalAnswer};
 ghost use Rattle.spec.specs.Loops.{checkAnswer, checkArea0, checkArea1};
 ghost use Rattle.spec.specs.Fault.{faultAnswer, faultNumbers};
+ghost use Rattle.spec.specs.WriteOut.{writeOutAnswer, writeOutArea, textFault};
 
 #[no_mangle]
 pub extern "C" fn busplan_normal_form(catalogue: &[u8], plan: &[u8], area: &mut [u8]) -> i64
@@ -80,4 +81,26 @@ pub extern "C" fn busplan_fault(
     let found = crate::fault(catalogue, v, w, u);
     *fault = call_codes::fault_numbers(found, *fault);
     call_codes::fault_code(found)
+}
+
+#[no_mangle]
+pub extern "C" fn busplan_write_out(catalogue: &[u8], text: &[u8], area: &mut [u8]) -> i64
+    ensures answer { λ r. ⌜ r
+        ≡ lengthCode (writeOutAnswer (now (catalogue .entry)) (now (text .entry)) (now (area .entry))) ⌝ }
+    ensures bytes { λ r. ⌜ now (area .exit)
+        ≡ writeOutArea (now (catalogue .entry)) (now (text .entry)) (now (area .entry)) ⌝ }
+{
+    call_codes::length_code(crate::write_out(catalogue, text, area))
+}
+
+// fault receives the plan and the place.
+#[no_mangle]
+pub extern "C" fn busplan_text_fault(catalogue: &[u8], text: &[u8], fault: &mut [u64; 2]) -> i64
+    ensures answer { λ r. ⌜ r ≡ faultCode (textFault (now (catalogue .entry)) (now (text .entry))) ⌝ }
+    ensures numbers { λ r. ⌜ now (fault .exit)
+        ≡ faultNumbers (textFault (now (catalogue .entry)) (now (text .entry))) (now (fault .entry)) ⌝ }
+{
+    let wrong = crate::text_fault(catalogue, text);
+    *fault = call_codes::fault_numbers(wrong, *fault);
+    call_codes::fault_code(wrong)
 }

@@ -12,6 +12,8 @@ pub use call_forms::core;
 pub use call_forms::normal_form;
 pub use call_lead_in_check::lead_in_check;
 pub use call_loops::loops;
+pub use notation_write_out::text_fault;
+pub use notation_write_out::write_out;
 
 // The types of the answers.
 pub use spec::Catalogue;
