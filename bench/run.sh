@@ -19,8 +19,8 @@ fi
 . "$(dirname "$0")/../tests/library.sh"
 out=target/bench
 mkdir -p "$out"
-"$cc" -O3 -Wall -Wextra -Iinclude -Itests bench/bench.c bench/beads.c tests/supply.c tests/solver.c "$library" \
-  -Wl,-rpath,"$(dirname "$library")" -o "$out/bench"
+"$cc" -O3 -Wall -Wextra -Iinclude -Itests bench/bench.c bench/beads.c tests/supply.c tests/reader.c tests/solver.c \
+  "$library" -Wl,-rpath,"$(dirname "$library")" -o "$out/bench"
 if [ $what = time ]; then
   "$out/bench"
 else

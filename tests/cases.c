@@ -1,7 +1,7 @@
-/* The manual's cases, its edges, its slips and its table of refusals, as rows with the answers that it gives, but for
- * the pairs of a normal form, which no call for C tells. Every row is put to the library and to the solver, once with
- * empty slices as null pointers and once not. Then what busplan.h says of the room for areas and of the refusals'
- * texts. */
+/* The manual's cases, its edges, its slips, its texts and its table of refusals, as rows with the answers that it
+ * gives, but for the pairs of a normal form, which no call for C tells. Every row is put to the library and to the
+ * solver, or the reader of texts, once with empty slices as null pointers and once not. Then what busplan.h says of the
+ * room for areas and in words of each refusal. */
 #include "calls.h"
 #include "guarded.h"
 
@@ -45,6 +45,17 @@ struct row {
     {name, FAULT, catalogue, {v, w, u}, {EXACT, EXACT}, -(refusal), {PAIR(plan, place), NONE}}
 #define FAULTLESS(name, catalogue, v, w, u) \
     {name, FAULT, catalogue, {v, w, u}, {EXACT, EXACT}, 0, {NONE, NONE}}
+
+/* A text that is written out, in an area of any size or one that is refused with 9; and one in which something else is
+ * wrong, which both calls tell, whatever the area. */
+#define TEXT(s) {(const uint8_t *)(s), sizeof (s) - 1}
+#define WRITES(name, catalogue, text, area, answer, written) \
+    {name, WRITE_OUT, catalogue, {TEXT(text), NONE, NONE}, {area, EXACT}, answer, {written, NONE}}, \
+    {name, TEXT_FAULT, catalogue, {TEXT(text), NONE, NONE}, {EXACT, EXACT}, 0, {NONE, NONE}}
+#define WRONG(name, catalogue, text, refusal, plan, place) \
+    {name, WRITE_OUT, catalogue, {TEXT(text), NONE, NONE}, {EXACT, EXACT}, -(refusal), {NONE, NONE}}, \
+    {name, WRITE_OUT, catalogue, {TEXT(text), NONE, NONE}, {0, EXACT}, -(refusal), {NONE, NONE}}, \
+    {name, TEXT_FAULT, catalogue, {TEXT(text), NONE, NONE}, {EXACT, EXACT}, -(refusal), {PAIR(plan, place), NONE}}
 
 /* Conflicts 1-2, 2-3, 3-4. */
 #define K P(4, 3, 1, 2, 3, 0, 2, 0, 3, 0, 4, 0)
@@ -227,6 +238,83 @@ static const struct row rows[] = {
     FAULTLESS("24 commands", TWENTY_FOUR, P(24), P(152), P(24)),
     FAULTLESS("a chain of 255 records", LONG_CHAIN, P(1), P(2), NONE),
 
+    /* Texts, under 24 commands where nothing else is said */
+    WRITES("an empty text", TWENTY_FOUR, "", 0, 0, NONE),
+    WRITES("an empty text under no commands", NO_COMMANDS, "", 0, 0, NONE),
+    WRITES("empty brackets", TWENTY_FOUR, "()", 0, 0, NONE),
+    WRITES("a blank in brackets", TWENTY_FOUR, "( )", 0, 0, NONE),
+    WRITES("blanks", TWENTY_FOUR, "   ", EXACT, 0, NONE),
+    WRITES("the count 0", TWENTY_FOUR, "(1)0", EXACT, 0, NONE),
+    WRITES("a minus before the count 0", TWENTY_FOUR, "-(1)0", EXACT, 0, NONE),
+    WRITES("65,025 bytes, 0 times", TWENTY_FOUR, "(((1)255)255)0", EXACT, 0, NONE),
+    WRITES("the count 0 in an area of 0", TWENTY_FOUR, "(1 2 3)0", 0, 0, NONE),
+    WRITES("nothing, very often", TWENTY_FOUR, "(((((((()255)255)255)255)255)255)255)255", 0, 0, NONE),
+    WRITES("eight brackets in one another", TWENTY_FOUR, "((((((((7))))))))", 1, 1, P(7)),
+    WRITES("commands with blanks at both ends", TWENTY_FOUR, "  1 -24  10 ", 3, 3, P(1, U(24), 10)),
+    WRITES("a repeated group", TWENTY_FOUR, "(1 -2)3", 6, 6, P(1, U(2), 1, U(2), 1, U(2))),
+    WRITES("an undone group", TWENTY_FOUR, "-(1 2)", 2, 2, P(U(2), U(1))),
+    WRITES("a repeated group undone", TWENTY_FOUR, "-(1 2)2", 4, 4, P(U(2), U(1), U(2), U(1))),
+    WRITES("a count belongs to its bracket", TWENTY_FOUR, "(1)2 3", 3, 3, P(1, 1, 3)),
+    WRITES("a number behind a blank is no count", TWENTY_FOUR, "(1) 2", 2, 2, P(1, 2)),
+    WRITES("undone in an undone group", TWENTY_FOUR, "-(-1 -(2 3)2)", 5, 5, P(2, 3, 2, 3, 1)),
+    WRITES("undone three times", TWENTY_FOUR, "-(-(-1))", 1, 1, P(U(1))),
+    WRITES("groups in a group", TWENTY_FOUR, "((1)2 -(3 4)0 5)2", 6, 6, P(1, 1, 5, 1, 1, 5)),
+    WRITES("an area with room to spare", TWENTY_FOUR, "1 2", 40, 2, P(1, 2)),
+    WRITES("1,024 bytes", TWENTY_FOUR, "((1)16)64", EXACT, 1024, ONES(1024)),
+    WRITES("1,024 bytes in 1,023", TWENTY_FOUR, "((1)16)64", ONE_LESS, -9, NONE),
+    WRITES("2 bytes in 1", TWENTY_FOUR, " 1  2 ", 1, -9, NONE),
+    WRITES("a byte in none", K, "4", 0, -9, NONE),
+    WRONG("the number 0", TWENTY_FOUR, "0", 13, 1, 0),
+    WRONG("a leading zero", TWENTY_FOUR, "01", 13, 1, 0),
+    WRONG("a closing bracket", TWENTY_FOUR, ")", 13, 1, 0),
+    WRONG("a byte 0", TWENTY_FOUR, "\0", 13, 1, 0),
+    WRONG("the number 25", TWENTY_FOUR, "25", 13, 1, 1),
+    WRONG("the number 30", TWENTY_FOUR, "30", 13, 1, 1),
+    WRONG("no blank before a minus", TWENTY_FOUR, "1-2", 13, 1, 1),
+    WRONG("no blank before a bracket", TWENTY_FOUR, "1(2)", 13, 1, 1),
+    WRONG("two minuses", TWENTY_FOUR, "--1", 13, 1, 1),
+    WRONG("a blank behind a minus", TWENTY_FOUR, "- 1", 13, 1, 1),
+    WRONG("a closing bracket behind a minus", TWENTY_FOUR, "-)", 13, 1, 1),
+    WRONG("a closing bracket behind a command", TWENTY_FOUR, "1)", 13, 1, 1),
+    WRONG("a minus and nothing", TWENTY_FOUR, "-", 13, 1, 1),
+    WRONG("an opening bracket and nothing", TWENTY_FOUR, "(", 13, 1, 1),
+    WRONG("a tab", TWENTY_FOUR, "1\t2", 13, 1, 1),
+    WRONG("a comma", TWENTY_FOUR, "1, 2", 13, 1, 1),
+    WRONG("a newline at the end", TWENTY_FOUR, "12\n", 13, 1, 2),
+    WRONG("three digits", TWENTY_FOUR, "123", 13, 1, 2),
+    WRONG("the number 25, 0 times", TWENTY_FOUR, "(25)0", 13, 1, 2),
+    WRONG("a minus and a closing bracket", TWENTY_FOUR, "(-)", 13, 1, 2),
+    WRONG("a minus and nothing in brackets", TWENTY_FOUR, "(-", 13, 1, 2),
+    WRONG("a bracket that is not closed", TWENTY_FOUR, "(1", 13, 1, 2),
+    WRONG("no blank behind a bracket", TWENTY_FOUR, "(1)-2", 13, 1, 3),
+    WRONG("a minus and nothing at the end", TWENTY_FOUR, "1 -", 13, 1, 3),
+    WRONG("the count 00", TWENTY_FOUR, "(1)00", 13, 1, 4),
+    WRONG("the count 01", TWENTY_FOUR, "(1)01", 13, 1, 4),
+    WRONG("no blank behind a count", TWENTY_FOUR, "(1)2(3)", 13, 1, 4),
+    WRONG("the count 256", TWENTY_FOUR, "(1)256", 13, 1, 5),
+    WRONG("the count 260", TWENTY_FOUR, "(1)260", 13, 1, 5),
+    WRONG("a number before the nesting", TWENTY_FOUR, "1 (((((((((25", 13, 1, 12),
+    WRONG("a missing bracket before the nesting", TWENTY_FOUR, "(((((((((1))))))))", 13, 1, 18),
+    WRONG("nine brackets in one another", TWENTY_FOUR, "(((((((((1)))))))))", 14, 1, 8),
+    WRONG("nine empty brackets", TWENTY_FOUR, "((((((((()))))))))", 14, 1, 8),
+    WRONG("nine brackets, 0 times", TWENTY_FOUR, "(((((((((1)))))))))0", 14, 1, 8),
+    WRONG("the nesting before a command", K, "5 (((((((((1)))))))))", 14, 1, 10),
+    WRONG("command 5 of 4", K, "5", 8, 1, 0),
+    WRONG("command 5 of 4 undone", K, "-5", 8, 1, 1),
+    WRONG("command 24 of 4, 0 times", K, "(24)0", 8, 1, 1),
+    WRONG("the first of two commands", K, "1 (5)0 6", 8, 1, 3),
+    WRONG("a command before the size", K, "((((1)255)255)255)255 7", 8, 1, 22),
+    WRONG("command 1 of none", NO_COMMANDS, " 1", 8, 1, 1),
+    WRONG("4,228,250,625 bytes", TWENTY_FOUR, "((((1)255)255)255)255", 15, 1, 0),
+    WRONG("1,025 bytes", TWENTY_FOUR, "((1)16)64 2", 15, 1, 0),
+    WRONG("1,025 bytes in brackets", TWENTY_FOUR, "((1)205)5", 15, 1, 0),
+    WRONG("no catalogue before the text", NONE, "x", 1, 0, 0),
+    WRONG("25 commands before the text", TWENTY_FIVE, "x", 2, 0, 0),
+    WRONG("an index before the text", P(1, 0, 1), "x", 3, 0, 2),
+    WRONG("a record before the text", P(2, 1, 1, 0, 0, 0), "x", 4, 0, 4),
+    WRONG("an endless chain before the text", P(2, 1, 0, 1, 1, 1), "x", 5, 0, 3),
+    WRONG("a command in its own chain before the text", P(2, 1, 0, 1, 2, 0), "x", 6, 0, 3),
+
     /* The order of the table over several plans */
     SAME("a byte of plan 1 before the size of plan 2", K, P(5), ONES(1025), -8),
     SAME("the size of plan 1 before a byte of plan 2", K, ONES(1025), P(5), -7),
@@ -321,11 +409,12 @@ static void run(const struct row *row, bool library, bool nulls) {
             fail(row, who, "other bytes in an area", answer);
 }
 
-/* A row that no line from 1 to 8 refuses is refused by 9 just where an area has a byte less than busplan.h says. */
+/* A row that no line from 1 to 8 refuses is refused by 9 just where an area has a byte less than busplan.h says. What
+ * a text needs is in no macro, but its rows have areas of just that size and less. */
 static void check_room(const struct row *row) {
     struct question q = {row->call, row->catalogue, {row->plan[0], row->plan[1], row->plan[2]}};
     struct area area[2];
-    if (row->answer < 0 && row->answer != -BUSPLAN_AREA_SIZE) return;
+    if ((row->answer < 0 && row->answer != -BUSPLAN_AREA_SIZE) || row->call == WRITE_OUT) return;
     for (unsigned less = 0; less <= areas_of[row->call] && sizes_areas(row->call); less++) {
         for (unsigned i = 0; i < 2; i++) {
             guarded_noise(&lent[i], room(&q, i), true, 0);
@@ -344,16 +433,19 @@ _Static_assert(BUSPLAN_MAX_LOOPS_ROOM
                == BUSPLAN_LOOPS_ROOM(BUSPLAN_MAX_COMMANDS, BUSPLAN_MAX_PLAN, BUSPLAN_MAX_PLAN), "the room for loops");
 _Static_assert(BUSPLAN_MAX_CHECK_ROOM == BUSPLAN_CHECK_ROOM0(BUSPLAN_MAX_PLAN, BUSPLAN_MAX_LEAD_IN), "area 0");
 _Static_assert(BUSPLAN_MAX_CHECK_ROOM == BUSPLAN_CHECK_ROOM1(BUSPLAN_MAX_LEAD_IN, BUSPLAN_MAX_PLAN), "area 1");
+_Static_assert(BUSPLAN_MAX_WRITE_OUT_ROOM == BUSPLAN_MAX_PLAN, "the room for a plan written out");
+_Static_assert(BUSPLAN_MAX_NESTING == MOST_NESTING, "how deep brackets nest");
 
-/* What the text of an answer has in it, and no text of another number. */
+/* What the words for an answer have in them, and the words for no other number. */
 static const struct {
     int64_t answer;
     const char *word;
 } texts[] = {
     {-1, "2 + N + 2R"}, {-2, "24 commands"}, {-3, "index"}, {-4, "record whose"}, {-5, "doesn't end"},
-    {-6, "its own chain"}, {-7, "1,024"}, {-8, "byte that"}, {-9, "area"}, {-10, "unsettled"}, {-11, "framed"},
-    {-12, "letters that cancelled"}, {0, "not refused"}, {1, "not refused"}, {INT64_MAX, "not refused"},
-    {-13, "no refusal of this library"}, {INT64_MIN, "no refusal of this library"},
+    {-6, "its own chain"}, {-7, "a lead-in over"}, {-8, "byte that"}, {-9, "area"}, {-10, "unsettled"}, {-11, "framed"},
+    {-12, "letters that cancelled"}, {-13, "notation"}, {-14, "deeper than 8"}, {-15, "written out"},
+    {0, "not refused"}, {1, "not refused"}, {INT64_MAX, "not refused"},
+    {-16, "no refusal of this library"}, {INT64_MIN, "no refusal of this library"},
 };
 
 static void check_texts(void) {

@@ -1,5 +1,6 @@
-/* Puts random questions to the library and to the solver and compares the answers, every byte of the areas, and bytes
- * beside them. Usage: differential [SEED [CALLS]]. A difference prints the question in hexadecimal and fails. */
+/* Puts random questions about plans to the library and to the solver and compares the answers, every byte of the areas,
+ * and bytes beside them. Usage: differential [SEED [CALLS]]. A difference prints the question in hexadecimal and fails.
+ * notation.c does this for texts. */
 #include "brute.h"
 #include "calls.h"
 #include "guarded.h"
@@ -21,7 +22,7 @@ static struct question question;
 
 /* How often each call gave each answer: 0, minus 1 to 10, or ABOVE for any answer above 0. */
 enum { ABOVE = 11, ANSWERS = 12 };
-static uint64_t answers[CALLS][ANSWERS];
+static uint64_t answers[PLAN_CALLS][ANSWERS];
 
 /* ---- When something is wrong */
 
@@ -243,7 +244,7 @@ static void print_answers(void) {
     printf("%-14s %8s %8s", "answer", "above 0", "0");
     for (int i = 1; i <= 9; i++) printf(" %8d", -i);
     putchar('\n');
-    for (unsigned call = 0; call < CALLS; call++) {
+    for (unsigned call = 0; call < PLAN_CALLS; call++) {
         printf("%-14s %8" PRIu64 " %8" PRIu64, call_name[call], answers[call][ABOVE], answers[call][0]);
         for (unsigned i = 1; i <= 9; i++) printf(" %8" PRIu64, answers[call][i]);
         putchar('\n');

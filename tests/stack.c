@@ -3,7 +3,7 @@
  * call touches, also where it only looks whether the stack has room, and of the last one every byte that it writes. */
 #define _GNU_SOURCE
 #include "calls.h"
-#include "supply.h"
+#include "texts.h"
 
 #include <signal.h>
 #include <stdio.h>
@@ -15,14 +15,16 @@
 enum { STACK = 1 << 23, PAGE = 1 << 12, PAINT = 0xA5, ROUNDS = 1000 };
 
 static const size_t promised[CALLS] = {BUSPLAN_NORMAL_FORM_STACK, BUSPLAN_CORE_STACK, BUSPLAN_EQUAL_STACK,
-                                       BUSPLAN_LOOPS_STACK, BUSPLAN_LEAD_IN_CHECK_STACK, BUSPLAN_FAULT_STACK};
+                                       BUSPLAN_LOOPS_STACK, BUSPLAN_LEAD_IN_CHECK_STACK, BUSPLAN_FAULT_STACK,
+                                       BUSPLAN_WRITE_OUT_STACK, BUSPLAN_TEXT_FAULT_STACK};
 
 static uint8_t *stack, *lowest, *start;
 static struct bytes catalogue, v, w, u;
 static struct question question;
 static int64_t answer;
 
-/* The most that a call used so far, and the sizes of the catalogue and of the plans that it was first used with. */
+/* The most that a call used so far, and the sizes of the catalogue and of the plans, or of the text, that it was first
+ * used with. */
 static struct {
     size_t used, size[4];
 } most[CALLS];
@@ -111,7 +113,7 @@ static void ask_settling(unsigned commands, size_t size) {
     }
     u.size = size;
     memset(u.at, 1, size);
-    for (unsigned call = 0; call < CALLS; call++) measure((enum call)call);
+    for (unsigned call = 0; call < PLAN_CALLS; call++) measure((enum call)call);
 }
 
 /* Plans of any kind and size, joined and not, and now and then a long lead-in. */
@@ -126,7 +128,28 @@ static void ask_random(void) {
     if (chance(5)) lengthen_lead_in(&v, &w, &u);
     if (chance(10)) long_settling(&catalogue, &v, &w);
     if (chance(10)) damage_catalogue(&catalogue);
-    for (unsigned call = 0; call < CALLS; call++) measure((enum call)call);
+    for (unsigned call = 0; call < PLAN_CALLS; call++) measure((enum call)call);
+}
+
+/* A text in the place of plan 1, of any kind and size, now and then damaged. */
+static void ask_random_text(void) {
+    random_catalogue(&catalogue);
+    random_text(catalogue.at[0], &v);
+    if (chance(2)) lengthen_text(&v);
+    if (chance(20)) damage_text(&v);
+    for (unsigned call = PLAN_CALLS; call < CALLS; call++) measure((enum call)call);
+}
+
+/* The same with so many brackets in one another, a minus before each, around a command. */
+static void ask_nest(size_t depth) {
+    random_catalogue(&catalogue);
+    v.size = 4 * depth + 1;
+    for (size_t i = 0; i < depth; i++) {
+        memcpy(v.at + 2 * i, "-(", 2);
+        memcpy(v.at + 2 * depth + 1 + 2 * i, ")1", 2);
+    }
+    v.at[2 * depth] = '1';
+    for (unsigned call = PLAN_CALLS; call < CALLS; call++) measure((enum call)call);
 }
 
 int main(void) {
@@ -136,11 +159,16 @@ int main(void) {
     for (size_t i = 0; i < sizeof sizes / sizeof sizes[0]; i++)
         for (unsigned commands = 2; commands <= MOST_COMMANDS; commands += 11) ask_settling(commands, sizes[i]);
     for (unsigned i = 0; i < ROUNDS; i++) ask_random();
+    for (size_t depth = 0; depth <= MOST_NESTING; depth++) ask_nest(depth);
+    ask_nest(MOST_TEXT / 4 - 1);
+    for (unsigned i = 0; i < ROUNDS; i++) ask_random_text();
     for (unsigned call = 0; call < CALLS; call++) {
         const size_t *size = most[call].size;
         question.call = (enum call)call;
-        printf("stack: %-13s %6zu bytes of %6zu, first with a catalogue of %zu bytes and plans of %zu, %zu, %zu\n",
-               call_name[call], most[call].used, promised[call], size[0], size[1], size[2], size[3]);
+        printf("stack: %-13s %6zu bytes of %6zu, first with a catalogue of %zu bytes and ", call_name[call],
+               most[call].used, promised[call], size[0]);
+        if (call < PLAN_CALLS) printf("plans of %zu, %zu, %zu\n", size[1], size[2], size[3]);
+        else printf("a text of %zu\n", size[1]);
         if (most[call].used > promised[call]) fail("that is more than busplan.h says");
         if (promised[call] > BUSPLAN_STACK) fail("busplan.h says more than BUSPLAN_STACK");
     }

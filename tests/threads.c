@@ -2,7 +2,7 @@
  * Four threads with stacks of that size put the same questions, each in its own order; every answer and every byte must
  * be as it was when one thread asked alone. */
 #include "calls.h"
-#include "supply.h"
+#include "texts.h"
 
 #include <pthread.h>
 #include <stdio.h>
@@ -35,10 +35,12 @@ static struct slice keep(const struct bytes *from) {
     return (struct slice){memcpy(new_bytes(from->size), from->at, from->size), from->size};
 }
 
-/* A random question; every tenth has long plans and a lead-in that is long too, and every seventh a damaged plan. */
+/* A random question; every tenth has long plans and a lead-in that is long too, and every seventh a damaged plan. A
+ * call that takes a text gets one in the place of plan 1, which is long or damaged as often. */
 static struct question draw_question(size_t number) {
     static struct bytes catalogue, v, w, u;
     struct conflicts k;
+    enum call call = (enum call)(number / 10 % CALLS);
     bool large = number % 10 == 0;
     if (large) long_settling(&catalogue, &v, &w);
     else random_catalogue(&catalogue);
@@ -47,7 +49,12 @@ static struct question draw_question(size_t number) {
     joined_plan(&k, &v, &w, &u);
     if (large) lengthen_lead_in(&v, &w, &u);
     if (number % 7 == 0) damage_plan(&k, &w, MOST_PLAN);
-    return (struct question){(enum call)(number / 10 % CALLS), keep(&catalogue), {keep(&v), keep(&w), keep(&u)}};
+    if (call >= PLAN_CALLS) {
+        random_text(k.commands, &v);
+        if (large) lengthen_text(&v);
+        if (number % 7 == 0) damage_text(&v);
+    }
+    return (struct question){call, keep(&catalogue), {keep(&v), keep(&w), keep(&u)}};
 }
 
 static void ask_alone(void) {
