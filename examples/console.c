@@ -1,9 +1,10 @@
 /* A console for bus plans. It reads lines from standard input, as the list below says, and answers on standard output.
+ * Plans are typed in the beacon team's notation, and the library reads them.
  *
- * A mistake is reported on standard error with its line number, nothing of its line is taken, and the exit status will
- * be 1. After a mistake in a line that gives, or may have been meant to give, a part of the catalogue, no question is
- * answered until a corrected line has come: a good commands line, or a good conflicts line that names all commands that
- * the bad one names and after which all pairs hold that can be read in it.
+ * A mistake is reported on standard error with its line number, and one in a plan with its column. Nothing of its line
+ * is taken, and the exit status will be 1. After a mistake in a line that gives, or may have been meant to give, a part
+ * of the catalogue, no question is answered until a corrected line has come: a good commands line, or a good conflicts
+ * line that names all commands that the bad one names and after which all pairs hold that can be read in it.
  *
  * Build, after `rt staticlib busplan`, from the repository's root:
  *   gcc -O2 -Iinclude examples/console.c target/staticlib/libbusplan.a -o target/console
@@ -24,15 +25,19 @@ static const char help_text[] =
     "conflicts 1-2, 2-3 3-4  pairs that conflict (all others may swap), added to those given before\n"
     "conflicts               after a mistake, says that what holds is right\n"
     "catalogue               shows what holds: the pairs, and the catalogue's bytes in hexadecimal\n"
-    "normal 1 3 -1           the normal form of a plan; -1 undoes 1, and 0 is a filler\n"
+    "plan (1 -2)3            a plan written out, here 1 -2 1 -2 1 -2\n"
+    "normal 1 3 -1           the normal form of a plan\n"
     "core 1 2 -1             the core of a plan\n"
-    "equal 1 3 / 3 1         do two plans have the same effect?\n"
+    "equal (1 3)2 / 3 3 1 1  do two plans have the same effect?\n"
     "loops 1 2 / 2 1         are two loops joined, and by which lead-in?\n"
     "check 1 2 / 2 1 / 1     is the third plan a lead-in from the first loop to the second?\n"
     "help                    prints this list\n"
     "quit                    ends the console, as the end of the input does\n"
-    "Blanks and commas separate numbers and pairs; blanks stand around /; # starts a comment.\n"
-    "A number has no leading zero, and a pair is two numbers and a dash.\n";
+    "A plan is commands and groups with blanks between them. 3 does command 3, and -3 undoes it. (1 -2)3 is a group\n"
+    "taken 3 times, 0 to 255, and (1 -2) once; -(1 2)3 undoes all of it. Groups nest up to 8 deep. Commas, tabs and\n"
+    "the filler 0 are no part of a plan. Written out, a plan has at most 1,024 commands, and a lead-in too.\n"
+    "/ stands between plans. Blanks and commas separate pairs, and a pair is two numbers and a dash.\n"
+    "No number has a leading zero. # starts a comment.\n";
 
 #define BLANKS " \t"
 #define SEPARATORS " \t,"
@@ -82,21 +87,6 @@ static const char *shown(struct word word) {
     return buffer;
 }
 
-/* A number below 1,000,000 with a comma after its thousands, and with an ending. */
-static const char *counted(uint64_t number, const char *ending) {
-    static char buffer[32];
-    unsigned thousands = (unsigned)(number / 1000), rest = (unsigned)(number % 1000);
-    if (thousands == 0) snprintf(buffer, sizeof buffer, "%u%s", rest, ending);
-    else snprintf(buffer, sizeof buffer, "%u,%03u%s", thousands, rest, ending);
-    return buffer;
-}
-
-static const char *ordinal(uint64_t number) {
-    static const char *const endings[] = {"th", "st", "nd", "rd"};
-    bool teen = number / 10 % 10 == 1;
-    return counted(number, teen || number % 10 > 3 ? "th" : endings[number % 10]);
-}
-
 /* ---- Words and numbers */
 
 /* Takes the next word off a text; false if there is none. */
@@ -117,7 +107,7 @@ static bool ended(const char *rest) {
     return !next_word(&rest, BLANKS, &word) || complain("words after the last argument: %s", shown(word));
 }
 
-/* No catalogue has a command of this number, and each number up to it fits a plan's byte. */
+/* No catalogue has a command of this number. */
 enum { NO_COMMAND = 127 };
 
 /* Takes a number off the front of a word: decimal digits with no leading zero. However many digits it has, one above
@@ -400,75 +390,96 @@ static bool show_catalogue(const char *rest) {
 
 /* ---- Plans */
 
-/* A letter takes at least one byte of its line, so no line has more letters than this. */
-static uint8_t letters[MOST_LINE];
+/* The plans of a question: as typed, and as the library writes them out. */
 static struct plan {
-    const uint8_t *at;
+    struct word typed;
+    uint8_t at[BUSPLAN_MAX_WRITE_OUT_ROOM];
     size_t size;
 } plan[MOST_PLANS];
 static uint8_t area[2][BUSPLAN_MAX_CHECK_ROOM]; /* the largest room that a call asks for */
 
-/* Reads 3, -3 or 0. A number above NO_COMMAND is handed over as NO_COMMAND, so that the library finds it as it finds
- * any other that is no command of the catalogue. */
-static bool read_letter(struct word word, uint8_t *letter) {
-    unsigned number;
-    bool undo = take_dash(&word);
-    if (!take_number(&word, &number) || word.size > 0 || (undo && number == 0)) return false;
-    *letter = (uint8_t)(undo ? 128 + number : number);
+static const char *plan_name(unsigned plans, unsigned number) {
+    static const char *const names[] = {"plan 1", "plan 2", "plan 3"};
+    return plans == 1 ? "the plan" : names[number];
+}
+
+/* Finds as many plans as a question takes, with / between them; false after a message. */
+static bool find_plans(const char *verb, unsigned plans, const char *rest) {
+    static const char *const wanted[] = {"one plan", "two plans, with / between them",
+                                         "three plans, with / between them"};
+    unsigned found = 1;
+    rest += strspn(rest, BLANKS);
+    for (const char *c = rest; *c != '\0'; c++) found += *c == '/';
+    if (found != plans) return complain("%s takes %s", verb, wanted[plans - 1]);
+    for (unsigned i = 0; i < plans; i++) {
+        plan[i].typed = (struct word){rest, strcspn(rest, "/")};
+        rest += plan[i].typed.size + 1;
+    }
     return true;
 }
 
-static const char *plan_name(unsigned plans, uint64_t number) {
-    static const char *const names[] = {"plan 1", "plan 2", "plan 3"};
-    return plans == 1 ? "the plan" : names[number - 1];
+static bool is_digit(char c) { return c >= '0' && c <= '9'; }
+
+/* Why a plan cannot go on as it does at a place, or cannot end there. */
+static const char *wrong_at(struct word typed, size_t place) {
+    char here = place < typed.size ? typed.at[place] : '\0', before = place > 0 ? typed.at[place - 1] : ' ';
+    size_t number = place;
+    while (number > 0 && is_digit(typed.at[number - 1])) number--;
+    bool count = number > 0 && typed.at[number - 1] == ')';
+    if (is_digit(here))
+        return count ? "a count is 0 to 255, with no leading zero" : "a command is 1 to 24, with no leading zero";
+    if (before == '-') return "a command or a group must follow a minus directly";
+    if (here == '\0') return "a bracket is not closed";
+    if (here == ')') return "no bracket is open";
+    if (here == '-' || here == '(') return "a blank is missing here";
+    return "a plan has numbers, - ( ) and blanks alone";
 }
 
-/* Reads as many plans as a question takes, with / between them; false after a message. */
-static bool read_plans(const char *verb, unsigned plans, const char *rest) {
-    static const char *const wanted[] = {"one plan", "two plans, with / between them",
-                                         "three plans, with / between them"};
-    uint8_t *end = letters;
-    unsigned number = 1;
-    struct word word;
-    for (unsigned i = 0; i < MOST_PLANS; i++) plan[i] = (struct plan){letters, 0};
-    while (next_word(&rest, SEPARATORS, &word)) {
-        struct plan *last = &plan[number - 1];
-        if (is(word, "/")) {
-            if (number == plans) return complain("%s takes %s", verb, wanted[plans - 1]);
-            plan[number++].at = end;
-        } else if (read_letter(word, end)) {
-            end++;
-            last->size++;
-        } else {
-            return complain("%s, its %s command: not of the form 3, -3 or 0: %s", plan_name(plans, number),
-                            ordinal(last->size + 1), shown(word));
-        }
-    }
-    return number == plans || complain("%s takes %s", verb, wanted[plans - 1]);
+/* What stands around a place, between blanks; nothing at the plan's end. */
+static struct word word_at(struct word typed, size_t place) {
+    size_t from = place, to = place;
+    if (place == typed.size) return (struct word){typed.at, 0};
+    while (from > 0 && typed.at[from - 1] != ' ') from--;
+    while (to < typed.size && typed.at[to] != ' ') to++;
+    return (struct word){typed.at + from, to - from};
 }
 
-/* The word that was typed for a letter: plans are counted from 1, places from 0. */
-static struct word typed(const char *rest, uint64_t number, uint64_t place) {
-    struct word word;
-    while (next_word(&rest, SEPARATORS, &word)) {
-        if (is(word, "/")) number--;
-        else if (number == 1 && place-- == 0) break;
-    }
-    return word;
+static unsigned number_at(struct word typed, size_t place) {
+    struct word left = {typed.at + place, typed.size - place};
+    unsigned number;
+    take_number(&left, &number);
+    return number;
 }
 
-/* Says in the planner's words why the library refused the plans. */
-static bool explain(int64_t answer, unsigned plans, const char *rest) {
-    uint64_t fault[2];
-    int64_t reason = busplan_fault(catalogue, catalogue_size, plan[0].at, plan[0].size, plan[1].at, plan[1].size,
-                                   plan[2].at, plan[2].size, fault);
+/* Says in the planner's words why the library did not write a plan out. */
+static bool explain(const char *name, struct word typed) {
+    uint64_t fault[2] = {0, 0};
+    int64_t reason = busplan_text_fault(catalogue, catalogue_size, (const uint8_t *)typed.at, typed.size, fault);
+    size_t place = (size_t)fault[1], column = (size_t)(typed.at - text) + place + 1;
+    struct word word = word_at(typed, place);
+    if (reason == -BUSPLAN_TEXT)
+        return complain("%s, column %zu: %s%s%s", name, column, wrong_at(typed, place), word.size > 0 ? ": " : "",
+                        shown(word));
+    if (reason == -BUSPLAN_NESTING)
+        return complain("%s, column %zu: groups nest up to 8 deep, and here deeper", name, column);
     if (reason == -BUSPLAN_PLAN_BYTE)
-        return complain("%s, its %s command: %s is no command of this catalogue", plan_name(plans, fault[0]),
-                        ordinal(fault[1] + 1), shown(typed(rest, fault[0], fault[1])));
-    if (reason == -BUSPLAN_PLAN_SIZE)
-        return complain("%s has %s commands and fillers, and at most %s are allowed", plan_name(plans, fault[0]),
-                        counted(plan[fault[0] - 1].size, ""), fault[0] == 3 ? "49,152" : "1,024");
-    return complain("%s", busplan_refusal_text(answer));
+        return complain("%s, column %zu: %u is no command of this catalogue", name, column, number_at(typed, place));
+    if (reason == -BUSPLAN_WRITTEN_SIZE)
+        return complain("%s has over 1,024 commands when it is written out, more than can be typed", name);
+    return complain("%s", busplan_refusal_text(reason));
+}
+
+/* Reads the plans of a question; false after a message. */
+static bool read_plans(const char *verb, unsigned plans, const char *rest) {
+    if (!find_plans(verb, plans, rest)) return false;
+    for (unsigned i = 0; i < plans; i++) {
+        struct plan *p = &plan[i];
+        int64_t size = busplan_write_out(catalogue, catalogue_size, (const uint8_t *)p->typed.at, p->typed.size,
+                                         p->at, sizeof p->at);
+        if (size < 0) return explain(plan_name(plans, i), p->typed);
+        p->size = (size_t)size;
+    }
+    return true;
 }
 
 static void print_plan(const char *what, const uint8_t *letter, size_t size) {
@@ -479,13 +490,18 @@ static void print_plan(const char *what, const uint8_t *letter, size_t size) {
 
 /* ---- Questions: each prints the library's answer, if it is no refusal, and returns it */
 
-static int64_t print_normal_form(const char *what, struct plan p) {
-    int64_t answer = busplan_normal_form(catalogue, catalogue_size, p.at, p.size, area[0], sizeof area[0]);
+static int64_t ask_plan(void) {
+    print_plan("plan", plan[0].at, plan[0].size);
+    return 0;
+}
+
+static int64_t print_normal_form(const char *what, const struct plan *p) {
+    int64_t answer = busplan_normal_form(catalogue, catalogue_size, p->at, p->size, area[0], sizeof area[0]);
     if (answer >= 0) print_plan(what, area[0], (size_t)answer);
     return answer;
 }
 
-static int64_t ask_normal(void) { return print_normal_form("normal form", plan[0]); }
+static int64_t ask_normal(void) { return print_normal_form("normal form", &plan[0]); }
 
 static int64_t ask_core(void) {
     int64_t answer = busplan_core(catalogue, catalogue_size, plan[0].at, plan[0].size, area[0], sizeof area[0]);
@@ -498,8 +514,8 @@ static int64_t ask_equal(void) {
     if (answer == 1) puts("equal");
     if (answer == 0) {
         puts("not equal; the normal forms are");
-        print_normal_form("  plan 1", plan[0]);
-        print_normal_form("  plan 2", plan[1]);
+        print_normal_form("  plan 1", &plan[0]);
+        print_normal_form("  plan 2", &plan[1]);
     }
     return answer;
 }
@@ -554,6 +570,7 @@ static const struct verb {
     {"catalogue", NEITHER, show_catalogue, 0, NULL},
     {"help", NEITHER, help, 0, NULL},
     {"quit", NEITHER, quit, 0, NULL},
+    {"plan", NEITHER, NULL, 1, ask_plan},
     {"normal", NEITHER, NULL, 1, ask_normal},
     {"core", NEITHER, NULL, 1, ask_core},
     {"equal", NEITHER, NULL, 2, ask_equal},
@@ -572,7 +589,7 @@ static bool obey_verb(const struct verb *verb, const char *rest) {
     if (hindrance()) return complain("not answered: %s", hindrance());
     if (!read_plans(verb->name, verb->plans, rest)) return false;
     int64_t answer = verb->ask();
-    return answer >= 0 || explain(answer, verb->plans, rest);
+    return answer >= 0 || complain("%s", busplan_refusal_text(answer));
 }
 
 /* What makes a line as a whole a mistake. */

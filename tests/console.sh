@@ -124,30 +124,31 @@ printf 'commands 4\nnormal 1\n\000' | made nul_at_the_end 'normal form: 1\n' "li
   made long_comment 'normal form: 2\n' "line 2: $long\n"
 { printf 'commands 4\nnormal 2\n'; repeat 3000000 n; } | made long_last_line 'normal form: 2\n' "line 3: $long\n"
 
-# Plans at their limits and over them, fillers counted.
+# Plans at their limit and over it, typed one by one and in groups; a lead-in has the same limit here. A text may be as
+# long as its line.
 ones=$(repeat 1024 '1 ')
-zeros=$(repeat 49152 '0 ')
-over="and at most 1,024 are allowed"
-printf 'commands 24\nnormal %s\nnormal 0 %s\ncore %s 0\n' "$ones" "$ones" "$ones" |
-  made plan_of_1025 "normal form: ${ones% }\n" "\
-line 3: the plan has 1,025 commands and fillers, $over
-line 4: the plan has 1,025 commands and fillers, $over
+over="has over 1,024 commands when it is written out, more than can be typed"
+printf 'commands 24\nnormal %s\nnormal 1 %s\ncore (%s)1 -1\nnormal ((1)16)64\n' "$ones" "$ones" "$ones" |
+  made plan_of_1025 "normal form: ${ones% }\nnormal form: ${ones% }\n" "\
+line 3: the plan $over
+line 4: the plan $over
 "
-printf 'commands 24\nequal %s / %s\nequal 1 / %s 1\nloops %s -1 / 9\nloops 9 / %s%s\n' \
-  "$ones" "$ones" "$ones" "$ones" "$ones" "$ones" | made plans_of_1025 'equal\n' "\
-line 3: plan 2 has 1,025 commands and fillers, $over
-line 4: plan 1 has 1,025 commands and fillers, $over
-line 5: plan 2 has 2,048 commands and fillers, $over
+printf 'commands 24\nequal %s / ((1)64)16\nequal 1 / %s 1\nloops %s -1 / 9\nloops 9 / %s%s\n' \
+  "$ones" "$ones" "$ones" "$ones" "$ones" | made plans_of_1025 'equal\n' "\
+line 3: plan 2 $over
+line 4: plan 1 $over
+line 5: plan 2 $over
 "
-printf 'commands 24\ncheck 1 / 1 / %s\ncheck 1 / 1 / %s 0\nnormal %s\n' "$zeros" "$zeros" "$zeros" |
-  made lead_in_of_49153 'yes, a lead-in\n' "\
-line 3: plan 3 has 49,153 commands and fillers, and at most 49,152 are allowed
-line 4: the plan has 49,152 commands and fillers, $over
+printf 'commands 24\ncheck 1 / 1 / %s\ncheck 1 / 1 / %s 1\ncheck 1 / 1 / ((1)255)192\n' "$ones" "$ones" |
+  made lead_in_of_1025 'yes, a lead-in\n' "\
+line 3: plan 3 $over
+line 4: plan 3 $over
 "
-printf 'commands 24\ncheck 1 / 1 / %s25\ncheck 1 / 1 / %s25\n' "${zeros#0 }" "${zeros#0 0 }" |
-  made place_49152 '' "\
-line 2: plan 3, its 49,152nd command: 25 is no command of this catalogue
-line 3: plan 3, its 49,151st command: 25 is no command of this catalogue
+zeros=$(repeat 200000 '(1)0 ')
+printf 'commands 4\nplan %s2\nplan %s5\nplan %s2)\n' "$zeros" "$zeros" "$zeros" | made plan_of_a_million_bytes \
+  'plan: 2\n' "\
+line 3: the plan, column 1000006: 5 is no command of this catalogue
+line 4: the plan, column 1000007: no bracket is open: 2)
 "
 
 # ---- Catalogues
@@ -203,7 +204,7 @@ loops 1 2 / 2 1
 loops 3 2 1 4 -3 1 / 2 1 4 1
 loops 5 6 6 1 2 3 / 2 3 1 6 5 6
 loops 5 -1 2 -5 3 / 3 -1 2
-loops 0 / 1 -1
+loops / -(1 2) 1 2
 END
 "$out/plain" <"$out/lead_ins.in" | sed -n 's/^joined, lead-in: //p' | sed 's/(empty)//' >"$out/lead_ins"
 sed -n 's/^loops/check/p' "$out/lead_ins.in" | paste -d/ - "$out/lead_ins" | sed 's,/\([^/]*\)$, / \1,' >"$out/checks"
@@ -303,7 +304,8 @@ awk -v seed="${SEED:-1}" -v mutants="${MUTANTS:-2000}" -v folder="$out/mutants" 
     if (kind == 5) return "4294967296" any(9)
     if (kind == 6) return "\nconflicts " any(5) "-" any(5) "\n"
     if (kind == 7) return "\ncommands " any(26) "\n"
-    return substr(" \t,-/#;x\r\n0+", any(12), 1)
+    if (kind == 8) return "\nplan -(" any(6) " (" any(6) ")" any(300) ")" any(9) "\n"
+    return substr(" \t,-/#;x\r\n0+()", any(14), 1)
   }
   function damage(text,  at, size) {
     at = any(length(text) + 1)

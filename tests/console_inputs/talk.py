@@ -8,7 +8,7 @@ import select
 import subprocess
 import sys
 
-REFUSAL = "line 3: the plan, its 1st command: 5 is no command of this catalogue\n"
+REFUSAL = "line 3: the plan, column 8: 5 is no command of this catalogue\n"
 
 
 def start_on_terminal(console):
