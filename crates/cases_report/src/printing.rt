@@ -5,21 +5,21 @@ use cases_solver::Word;
 use cases_solver::at;
 use cases_solver::same;
 
-fn text(bytes: &[u8]) {
+pub fn text(bytes: &[u8]) {
     io::write_all(1, bytes);
 }
 
-fn byte(b: u8) {
+pub fn byte(b: u8) {
     let one = [b];
     text(&one);
 }
 
-fn number(n: usize) {
+pub fn number(n: usize) {
     io::print_decimal(1, n as u64);
 }
 
 // A letter, or a number below 128.
-fn signed(b: u8) {
+pub fn signed(b: u8) {
     byte(b' ');
     if 127 < b {
         byte(b'-');

@@ -1,0 +1,20 @@
+-- `kept` is safe and ends: the measure is `1100 - i`.
+use Prim.Native.Nat.{_-_}
+use borrow.Author.Needs.{needs}
+use Rattle.cases_texts.proofs.report.kept.Statement.{statement}
+use Rattle.cases_texts.proofs.report.kept.Tie as tie
+
+abbrev Inv-loop : tie.InvT-loop
+Inv-loop area n i₀ t4 i = Unit {0}
+
+abbrev μ-loop : tie.MeasureT-loop
+μ-loop area n i₀ t4 i = 1100 - i
+
+pub kept-spec : {M : Type 1} → statement M
+kept-spec =
+    tie.close
+    (tie.spec
+    Inv-loop
+    μ-loop
+    (λ c. search needs) (λ c κs. search needs) (λ c. search needs) (λ c. search needs) (λ c. search needs)
+    (λ c. search needs) (λ c κs. search needs) (λ c. search needs) (λ c. search needs))
