@@ -1,6 +1,6 @@
 // A row of the table: the number of commands, a blank, the size of the area in bytes, a blank, and the text, which is
-// everything up to the newline that ends the row. In a text a backslash stands for the byte 0, with which the table were
-// no file of text.
+// everything up to the newline that ends the row. In a text a backslash stands for the byte 0, which would make the
+// table no file of text.
 
 ghost use Prim.Native.Nat.{_≤_};
 ghost use mathlib.Core.Path.{_≡_};

@@ -32,7 +32,8 @@ found-within : (b : Bool) (i : ℕ) (o : Option ℕ) {l m : ℕ} → i ≤ m →
 found-within true i o h f e = omega (arith, some-same e)
 found-within false i o h f e = f e
 
-first-within : (o p : Option ℕ) {l m : ℕ} → (o ≡ some l → l ≤ m) → (p ≡ some l → l ≤ m) → first o p ≡ some l → l ≤ m
+first-within : (o p : Option ℕ) {l m : ℕ} → (o ≡ some l → l ≤ m) → (p ≡ some l → l ≤ m) → first o p ≡ some l
+    → l ≤ m
 first-within none p f g e = g e
 first-within (some i) p f g e = f e
 
