@@ -125,21 +125,25 @@ ascending-equal (i ∷ is) (j ∷ js) a b f g =
     ap₂ (λ (k : ℕ) (ks : List ℕ). k ∷ ks) e
     (ascending-equal is js (a .1) (b .1) (within-tails a l f) (within-tails b m g))
 
-pub within-length : (is js : List ℕ) → Ascending is → Ascending js → Within is js → length is ≤ length js
-within-length [] js a b f = omega arith
-within-length (i ∷ is) [] a b f = absurd (List·Memᴰ·not-nil (f i (List·Memᴰ·head refl)))
-within-length (i ∷ is) (j ∷ js) a b f = go (placed i j)
-    (λ l. within-length is js (a .1) (b .1) (within-tails a l f))
-    (λ l. within-length (i ∷ is) js a (b .1) (λ k m. in-tail (later k l m) (f k m)))
+-- what is left of a list without one of its members, as far as it is larger
+in-without : {i : ℕ} (js : List ℕ) → i ∈ js
+    → (ks : List ℕ) × (length js ≡ suc (length ks)) × ((k : ℕ) → i < k → k ∈ js → k ∈ ks)
+in-without (j ∷ js) (List·Memᴰ·head e) = (js, refl, (λ k l m. in-tail (omega arith) m))
+in-without {i} (j ∷ js) (List·Memᴰ·tail m) =
+    let (ks, e, f) = in-without js m in
+    (j ∷ ks, ap suc e, (λ k l n. go k ks (f k l) n))
   where
-    later : (k : ℕ) → j < i → k ∈ i ∷ is → j < k
-    later k l m = let h : i ≤ k = head-least a m in omega arith
+    go : (k : ℕ) (ks : List ℕ) → (k ∈ js → k ∈ ks) → k ∈ j ∷ js → k ∈ j ∷ ks
+    go k ks f (List·Memᴰ·head e) = List·Memᴰ·head e
+    go k ks f (List·Memᴰ·tail n) = List·Memᴰ·tail (f n)
 
-    go : {s t : Bool} → Placed i j s t → (j ≤ i → length is ≤ length js) → (j < i → suc (length is) ≤ length js)
-        → suc (length is) ≤ suc (length js)
-    go (below l) p q = let h : j ≤ i = head-least b (f i (List·Memᴰ·head refl)) in absurd (omega arith)
-    go (above l) p q = let h = q l in omega arith
-    go (equal e) p q = let h = p (omega arith) in omega arith
+pub within-length : (is js : List ℕ) → Ascending is → Within is js → length is ≤ length js
+within-length [] js a f = omega arith
+within-length (i ∷ is) js a f =
+    let (ks, e, g) = in-without js (f i (List·Memᴰ·head refl)) in
+    let h = within-length is ks (a .1)
+    (λ k m. g k (all-mem (λ j. i < j) is (a .0) m) (f k (List·Memᴰ·tail m))) in
+    omega arith
 
 -- what was not there makes the list longer
 pub insert-length : (k : ℕ) (ks : List ℕ) → ¬ (k ∈ ks) → length (insert k ks) ≡ suc (length ks)
@@ -153,11 +157,11 @@ insert-length k (j ∷ js) n = go (placed k j) (insert-length k js (λ m. n (Lis
     go (above l) h = ap suc h
     go (equal e) h = absurd (n (List·Memᴰ·head e))
 
-pub within-shorter : (is js : List ℕ) → Ascending is → Ascending js → Within is js → (k : ℕ) → k ∈ js → ¬ (k ∈ is)
+pub within-shorter : (is js : List ℕ) → Ascending is → Within is js → (k : ℕ) → k ∈ js → ¬ (k ∈ is)
     → length is < length js
-within-shorter is js a b f k m n =
+within-shorter is js a f k m n =
     let g : Within (insert k is) js = (λ i o. go i (in-insert is o)) in
-    omega (arith, insert-length k is n, within-length (insert k is) js (insert-ascending k is a) b g)
+    omega (arith, insert-length k is n, within-length (insert k is) js (insert-ascending k is a) g)
   where
     go : (i : ℕ) → (i ≡ k) ⊎ (i ∈ is) → i ∈ js
     go i (inl e) = Memᴰ·cast e m

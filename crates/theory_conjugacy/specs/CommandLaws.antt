@@ -3,7 +3,7 @@
 use Prim.Native.Nat.{ℕ, suc, _≤_, _<_}
 use mathlib.Core.Path.{_≡_, refl, sym, _∙_, ap, subst}
 use mathlib.Core.Bool.{Bool, true, false, true≢false}
-use mathlib.Core.List.{[], _∷_, _++_, List·Memᴰ·not-nil}
+use mathlib.Core.List.{List, [], _∷_, _++_, List·Memᴰ·not-nil}
 use mathlib.Core.Logic.{_⊎_, inl, inr}
 use lib.ListN.{length}
 use native.Mathlib.Omega.{arith}
@@ -17,7 +17,7 @@ use Rattle.theory_conjugacy.specs.Turn.{Turns, same, turn, also}
 use Rattle.theory_words.specs.Filter.{filter, keepIf}
 use Rattle.theory_conjugacy.specs.Part.{commands, byCommand}
 use Rattle.theory_conjugacy.specs.AscendingLaws.{_∈_, Ascending, insert-in, in-insert, insert-ascending}
-use Rattle.theory_conjugacy.specs.AscendingLaws.{ascending-equal, within-shorter, ascending-length}
+use Rattle.theory_conjugacy.specs.AscendingLaws.{ascending-equal, within-length, within-shorter, ascending-length}
 
 module _ (Γ : Alphabet) where
   open Alphabet Γ using (Letter, cmd, conf)
@@ -183,8 +183,13 @@ module _ (Γ : Alphabet) where
   pub covers-shorter : (v w : Word Γ) → Covers w v → (k : ℕ) → Occurs k w → ¬ Occurs k v
       → length (commands Γ v) < length (commands Γ w)
   covers-shorter v w f k o n =
-      within-shorter (commands Γ v) (commands Γ w) (commands-ascending v) (commands-ascending w)
+      within-shorter (commands Γ v) (commands Γ w) (commands-ascending v)
       (λ j m. occurs-in (f j (in-occurs v m))) k (occurs-in o) (λ m. n (in-occurs v m))
+
+  -- no more than a list holds that holds all of them
+  pub commands-few : (ks : List ℕ) (w : Word Γ) → ((k : ℕ) → Occurs k w → k ∈ ks)
+      → length (commands Γ w) ≤ length ks
+  commands-few ks w f = within-length (commands Γ w) ks (commands-ascending w) (λ k m. f k (in-occurs w m))
 
   -- no more than n commands occur if all are among 1 to n
   pub commands-bounded : (n : ℕ) (w : Word Γ) → ((k : ℕ) → Occurs k w → (1 ≤ k) × (k ≤ n))

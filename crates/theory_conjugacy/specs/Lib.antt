@@ -5,6 +5,7 @@ pub mod Turn
 pub mod WordLaws
 pub mod Settle
 pub mod SettleLaws
+pub mod HalvesLaws
 pub mod Rotation
 pub mod RotationLaws
 pub mod RingLaws
@@ -17,6 +18,9 @@ pub mod CoreLaws
 pub mod LabelLaws
 pub mod PartLaws
 pub mod RoundLaws
+pub mod PartedLaws
+pub mod Rounds
+pub mod RoundsLaws
 pub mod Way
 pub mod WayLaws
 pub mod ConjugateLaws

@@ -45,6 +45,15 @@ module _ (Γ : Alphabet) (m : ℕ) where
   cycled zero w = []
   cycled (suc n) w = cycled-step (split [] w .0) (split [] w .1) (cycled n)
 
+  -- how many rounds, of at most n, it takes to settle the word
+  unfoldable pub counted-step : Word Γ → Word Γ → (Word Γ → ℕ) → ℕ
+  counted-step [] q again = zero
+  counted-step (b ∷ p) q again = suc (again (q ++ b ∷ p))
+
+  unfoldable pub counted : ℕ → Word Γ → ℕ
+  counted zero w = zero
+  counted (suc n) w = counted-step (split [] w .0) (split [] w .1) (counted n)
+
   -- the settled word in normal form
   unfoldable pub ring : ℕ → Word Γ → Word Γ
   ring n w = lex Γ (length (settled n w)) (settled n w)

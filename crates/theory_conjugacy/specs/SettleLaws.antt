@@ -111,20 +111,6 @@ module _ (Γ : Alphabet) (m : ℕ) where
   split-upper (up h s) = up h (split-upper s)
   split-upper (low h s) = split-upper s
 
-  -- R and the commands of u
-  abbrev raised : Word Γ → List ℕ → List ℕ
-  raised [] R = R
-  raised (b ∷ u) R = raised u (cmd b ∷ R)
-
-  -- behind a word that is raised whole
-  split-behind : {R : List ℕ} {u q x y : Word Γ} (v : Word Γ) → Split Γ m R u [] q → Split Γ m R (u ++ v) x y
-      → (z : Word Γ) × Split Γ m (raised u R) v x z
-  split-behind {y = y} v stop t = (y, t)
-  split-behind v (up h s) (up k t) = split-behind v s t
-  split-behind v (up h s) (low k t) = absurd (true≢false (sym h ∙ k))
-
-  -- the split goes along swaps
-
   -- the function computes the relation, which has one result
 
   pub split-splits : (R : List ℕ) (w : Word Γ) → Split Γ m R w (split Γ m R w .0) (split Γ m R w .1)
