@@ -74,12 +74,12 @@ pub fn equal_code(answer: Equality) -> i64
 }
 
 pub fn loops_code(answer: Loops) -> i64
-    requires { ⌜ ((l : ℕ) → answer ≡ Joined l → l + 1 < 2 ^ 63) ⌝ }
+    requires { ⌜ ((l n : ℕ) → answer ≡ Joined l n → l + 1 < 2 ^ 63) ⌝ }
     ensures { λ r. ⌜ r ≡ loopsCode (toldLoops answer) ⌝ }
 {
     match answer {
-        Loops::Joined(l) => (l + 1) as i64,
-        Loops::Apart => 0,
+        Loops::Joined { length, rounds: _ } => (length + 1) as i64,
+        Loops::Apart { rounds: _ } => 0,
         Loops::Refused(refusal) => {
             let reason = refusal.reason;
             refusal_code(reason)

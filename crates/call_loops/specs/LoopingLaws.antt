@@ -18,6 +18,7 @@ use Rattle.conjugacy_by_cores.specs.Join.{Plans, PlansOutcome}
 use Rattle.spec_laws.specs.UnsettledLaws.{never-unsettled}
 use Rattle.input_checks.specs.Entry.{TwoPlans, twoLines, SameRefusal}
 use Rattle.input_checks.specs.EntryLaws.{entered-none, entered-some, entered-commands}
+use Rattle.spec.specs.Answers.{DecidedLoops}
 use Rattle.spec.specs.Calls.{areaLine}
 use Rattle.spec.specs.Loops.{Looped, refuses, apart, joined, loopsLines, leadInRoom, unsettledLine}
 use Rattle.conjugacy_of_parts.specs.Outcomes.{toldOutcome}
@@ -26,7 +27,8 @@ module _ {c v w : List ℕ} {rows : List (List ℕ)} {r : Checked} (d : TwoPlans
   abbrev last : List (Option Line)
   last = areaLine 0 (leadInRoom c v w) area ∷ unsettledLine 1 c v ∷ unsettledLine 2 c w ∷ []
 
-  pub loops-refused : {t : Answer (Option ℕ)} {f : Refusal} → r ≡ Refused f → SameRefusal r t → Looped c v w area t area
+  pub loops-refused : {t : Answer DecidedLoops} {f : Refusal} → r ≡ Refused f → SameRefusal r t
+      → Looped c v w area t area
   loops-refused {t} {f} e s =
       subst (λ x. Looped c v w area x area) (sym (s f e))
       (refuses (first-early (twoLines c v w) last (entered-some d e)))

@@ -17,7 +17,7 @@ fn not_joined(checked: Checked) -> Loops
     ensures { λ r. ⌜ SameRefusal checked (toldLoops r) ⌝ }
 {
     match checked {
-        Checked::Passed(_) => Loops::Apart,
+        Checked::Passed(_) => Loops::Apart { rounds: 0 },
         Checked::Refused(refusal) => Loops::Refused(refusal),
     }
 }
@@ -27,8 +27,11 @@ fn verdict(outcome: Outcome) -> Loops
     ensures { λ r. ⌜ toldLoops r ≡ toldOutcome outcome ⌝ }
 {
     match outcome {
-        Outcome::Joined(l) => Loops::Joined(l),
-        Outcome::Apart => Loops::Apart,
+        Outcome::Joined { end, rounds } => Loops::Joined {
+            length: end,
+            rounds,
+        },
+        Outcome::Apart { rounds } => Loops::Apart { rounds },
         Outcome::Unsettled(plan) => Loops::Refused(Refusal {
             reason: Reason::Unsettled,
             plan,
@@ -37,7 +40,8 @@ fn verdict(outcome: Outcome) -> Loops
     }
 }
 
-// Whether two loops are joined. Where they are, a lead-in from v to w stands at the start of area, in normal form.
+// Whether two loops are joined, and how many rounds the part of either core takes that takes most. Where they are
+// joined, a lead-in from v to w stands at the start of area, in normal form.
 pub fn loops(catalogue: &[u8], v: &[u8], w: &[u8], area: &mut [u8]) -> Loops
     ensures { λ r. ⌜ Looped (now (catalogue .entry)) (now (v .entry)) (now (w .entry)) (now (area .entry)) (toldLoops r)
         (now (area .exit)) ⌝ }

@@ -81,8 +81,8 @@ pub fn compared(answer: Equality) -> Word {
 // The length of the lead-in of two loops, if there is one.
 pub fn lead_in(answer: Loops) -> usize {
     match answer {
-        Loops::Joined(l) => l,
-        Loops::Apart => 0,
+        Loops::Joined { length, rounds: _ } => length,
+        Loops::Apart { rounds: _ } => 0,
         Loops::Refused(_) => 0,
     }
 }
@@ -90,8 +90,11 @@ pub fn lead_in(answer: Loops) -> usize {
 // Of two loops, whose lead-in leads from one to the other, or not.
 pub fn joined(answer: Loops, leads: bool) -> Word {
     match answer {
-        Loops::Joined(_) => verdict(if leads { 1 } else { 2 }),
-        Loops::Apart => verdict(0),
+        Loops::Joined {
+            length: _,
+            rounds: _,
+        } => verdict(if leads { 1 } else { 2 }),
+        Loops::Apart { rounds: _ } => verdict(0),
         Loops::Refused(refusal) => refused(refusal),
     }
 }

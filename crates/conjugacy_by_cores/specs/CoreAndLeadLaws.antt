@@ -1,9 +1,9 @@
--- Whether two plans are joined, from their cores in normal form; and the lead-in, which is a normal form, joins and
--- fits.
+-- Whether two plans are joined, and after how many rounds, from their cores in normal form; and the lead-in, which is a
+-- normal form, joins and fits.
 use Prim.Native.Nat.{ℕ, _+_, _*_, _≤_}
 use native.Mathlib.Omega.{arith}
 use native.Mathlib.Nat.{mul-le-mul-left}
-use mathlib.Core.Path.{_≡_, sym, _∙_, ap, subst}
+use mathlib.Core.Path.{_≡_, sym, _∙_, ap, ap₂, subst}
 use mathlib.Core.Bool.{true}
 use mathlib.Core.List.{List}
 use lib.ListN.{length}
@@ -31,8 +31,9 @@ use Rattle.spec_laws.specs.LettersLaws.{letters-commands, letters-length, lette
 use Rattle.spec_laws.specs.NormalFormLaws.{normal-letters, normal-passing}
 use Rattle.spec_laws.specs.JoinLaws.{joins-words}
 use Rattle.spec_laws.specs.CoreFormLaws.{form-~}
+use Rattle.spec.specs.Rounds.{loopsRounds}
 use Rattle.spec.specs.Loops.{LeadIn, leadInRoom}
-use Rattle.conjugacy_of_cores.specs.Pair.{Conjugator}
+use Rattle.conjugacy_of_cores.specs.Pair.{Conjugator, coresRounds}
 use Rattle.conjugacy_by_cores.specs.CoreAndLead.{CoreAndLead}
 use Rattle.conjugacy_by_cores.specs.Join.{Cores}
 use Rattle.conjugacy_by_cores.specs.ThroughLaws.{cores-joined-same, through, through-conj, through-count}
@@ -97,6 +98,10 @@ module _ (c : List ℕ) where
 
     pub cores-joined-plans : cores-joined? (alphabet c) x y ≡ joined? (alphabet c) (letters v) (letters w)
     cores-joined-plans = cores-joined-same (alphabet c) (letters v) (letters w) x y (core-~ k) (core-~ l)
+
+    pub cores-rounds-plans : coresRounds c x y ≡ loopsRounds c v w
+    unfolding loopsRounds
+    cores-rounds-plans = ap₂ (coresRounds c) (k .form) (l .form)
 
     -- from a conjugator between the cores, one between the plans
     module _ {u : List ℕ} (q : Conjugator c x y u) where

@@ -9,6 +9,7 @@ use Rattle.spec.specs.Catalogue.{commands}
 use Rattle.spec.specs.Letters.{letters, alphabet, normalForm}
 use Rattle.spec_laws.specs.LettersLaws.{Commands}
 use Rattle.input_checks.specs.Passed.{Passed}
+use Rattle.spec.specs.Rounds.{loopsRounds}
 use Rattle.spec.specs.Loops.{LeadIn, leadInRoom}
 use Rattle.conjugacy_by_cores.specs.CoreAndLead.{CoreAndLead}
 use Rattle.conjugacy_of_parts.specs.declared.Outcome.{Outcome}
@@ -40,18 +41,20 @@ pub record WordJoined (c v w row : List ℕ) (end : ℕ) : Type 0 where
   pub short : end ≤ leadInRoom c v w
   pub lead-in : LeadIn c v w (normalForm c (take end row))
 
--- what an outcome says of the plans and the row: such a word stands in it, or the plans are apart
+-- what an outcome says of the plans and the row: such a word stands in it, or the plans are apart; and the rounds
 abbrev pub WordOutcome : List ℕ → List ℕ → List ℕ → List ℕ → Outcome → Type 0
-WordOutcome c v w row (Joined end) = WordJoined c v w row end
-WordOutcome c v w row Apart = joined? (alphabet c) (letters v) (letters w) ≡ false
+WordOutcome c v w row (Joined end n) = WordJoined c v w row end × (n ≡ loopsRounds c v w)
+WordOutcome c v w row (Apart n) =
+    (joined? (alphabet c) (letters v) (letters w) ≡ false) × (n ≡ loopsRounds c v w)
 WordOutcome c v w row (Unsettled p) = ⊥
 
 -- what an outcome says of the plans and the final area: a lead-in at the start of the area and past it the area as it
--- was, or the area as it was. No part of a core is unsettled after as many rounds as commands.
+-- was, or the area as it was; and the rounds. No part of a core is unsettled after as many rounds as commands.
 pub data PlansOutcome (c v w area : List ℕ) : Outcome → List ℕ → Type 0 where
   joined : {u : List ℕ} → joined? (alphabet c) (letters v) (letters w) ≡ true → LeadIn c v w u
-      → PlansOutcome c v w area (Joined (length u)) (u ++ drop (length u) area)
-  apart : joined? (alphabet c) (letters v) (letters w) ≡ false → PlansOutcome c v w area Apart area
+      → PlansOutcome c v w area (Joined (length u) (loopsRounds c v w)) (u ++ drop (length u) area)
+  apart : joined? (alphabet c) (letters v) (letters w) ≡ false
+      → PlansOutcome c v w area (Apart (loopsRounds c v w)) area
 
 -- for some plans with these cores: the word between them needs at most so much room, and the area holds a lead-in
 abbrev pub FormRoom : List (List ℕ) → List ℕ → List ℕ → List ℕ → List ℕ → ℕ → ℕ → List ℕ → Type 0

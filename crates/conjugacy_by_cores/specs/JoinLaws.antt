@@ -15,21 +15,22 @@ use Rattle.array_row.specs.AreaLaws.{starts-length, starts-area}
 use Rattle.spec.specs.Byte.{undone, undoOf}
 use Rattle.spec.specs.Letters.{letters, alphabet, normalForm}
 use Rattle.spec_laws.specs.LettersLaws.{letters-length, commands-passing}
+use Rattle.spec.specs.Rounds.{loopsRounds}
 use Rattle.long_reduction.specs.Reducing.{Given}
 use Rattle.long_form.specs.Forming.{Formable}
 use Rattle.array_row.specs.Row.{Appended}
 use Rattle.array_row.specs.RowLaws.{appended-take, appended-length}
-use Rattle.conjugacy_ring.specs.Ring.{Cyclic}
+use Rattle.conjugacy_settled_parts.specs.PartOf.{Cyclic}
 use Rattle.conjugacy_of_parts.specs.declared.Outcome.{Outcome}
 use Rattle.conjugacy_of_parts.specs.declared.Outcome.the-variants.{Joined, Apart, Unsettled}
 use Rattle.conjugacy_of_parts.specs.Outcomes.{Stops}
-use Rattle.conjugacy_of_cores.specs.Pair.{Coreable, CoresJoined, CoresOutcome}
+use Rattle.conjugacy_of_cores.specs.Pair.{Coreable, CoresJoined, coresRounds, CoresOutcome}
 use Rattle.input_checks.specs.Passed.{Passed}
 use Rattle.conjugacy_by_cores.specs.ThroughLaws.{through, through-count}
 use Rattle.conjugacy_by_cores.specs.CoreAndLead.{CoreAndLead}
 use Rattle.conjugacy_by_cores.specs.CoreAndLeadLaws.{core-~, off-length, off-commands, no-letters, through-joined}
 use Rattle.conjugacy_by_cores.specs.CoreAndLeadLaws.{through-commands, through-room, through-short}
-use Rattle.conjugacy_by_cores.specs.CoreAndLeadLaws.{through-lead-in, cores-joined-plans}
+use Rattle.conjugacy_by_cores.specs.CoreAndLeadLaws.{through-lead-in, cores-joined-plans, cores-rounds-plans}
 use Rattle.conjugacy_by_cores.specs.Join.{Plans, Cores, wordRoom, WordJoined, WordOutcome}
 use Rattle.conjugacy_by_cores.specs.Join.{PlansOutcome, joined, apart}
 
@@ -90,8 +91,8 @@ module _ {c : List ℕ} {conflicts : List (List ℕ)} {v w x g y h : List ℕ} {
   -- the outcome, where there is no lead-in
   pub join-stop : (before : List ℕ) (at : ℕ) (after : List ℕ) (o : Outcome) → Stops o
       → CoresOutcome c x y before at after o → WordOutcome c v w after o
-  join-stop before at after (Joined e) s d = absurd s
-  join-stop before at after Apart s d = sym (cores-joined-plans c k) ∙ d
+  join-stop before at after (Joined e m) s d = absurd s
+  join-stop before at after (Apart m) s d = (sym (cores-joined-plans c k) ∙ d .0, d .1 ∙ cores-rounds-plans c k)
   join-stop before at after (Unsettled q) s d = d
 
   -- the word in the row
@@ -117,20 +118,22 @@ module _ {c : List ℕ} {conflicts : List (List ℕ)} {v w x g y h : List ℕ} {
       }
 
 -- what the way from core to core tells
-pub cores-joined : (c x y before : List ℕ) (at : ℕ) (after : List ℕ) {o : Outcome} {end : ℕ}
-    → CoresOutcome c x y before at after o → o ≡ Joined end → CoresJoined c x y before at after end
+pub cores-joined : (c x y before : List ℕ) (at : ℕ) (after : List ℕ) {o : Outcome} {end n : ℕ}
+    → CoresOutcome c x y before at after o → o ≡ Joined end n
+    → CoresJoined c x y before at after end × (n ≡ coresRounds c x y)
 cores-joined c x y before at after d e = subst (CoresOutcome c x y before at after) e d
 
 -- the word in the row put in normal form
 
-pub word-joined : (c v w row : List ℕ) {o : Outcome} {end : ℕ} → WordOutcome c v w row o → o ≡ Joined end
-    → WordJoined c v w row end
+pub word-joined : (c v w row : List ℕ) {o : Outcome} {end n : ℕ} → WordOutcome c v w row o → o ≡ Joined end n
+    → WordJoined c v w row end × (n ≡ loopsRounds c v w)
 word-joined c v w row d e = subst (WordOutcome c v w row) e d
 
 pub word-stop : (c v w row area : List ℕ) (o : Outcome) → Stops o → WordOutcome c v w row o
     → PlansOutcome c v w area o area
-word-stop c v w row area (Joined e) s d = absurd s
-word-stop c v w row area Apart s d = apart d
+word-stop c v w row area (Joined e n) s d = absurd s
+word-stop c v w row area (Apart n) s d =
+    subst (λ i. PlansOutcome c v w area (Apart i) area) (sym (d .1)) (apart (d .0))
 word-stop c v w row area (Unsettled q) s d = absurd d
 
 module _ {c : List ℕ} {conflicts : List (List ℕ)} {v w : List ℕ} {n : ℕ} (p : Plans c conflicts v w n)
@@ -160,8 +163,9 @@ module _ {c : List ℕ} {conflicts : List (List ℕ)} {v w : List ℕ} {n : ℕ}
     fits = omega (arith, d .count, word-short, letters-length (take end row));
   }
 
-  pub word-outcome : {area after : List ℕ} {r : ℕ} → StartsWith (normalForm c (take end row)) area after r
-      → PlansOutcome c v w area (Joined r) after
-  word-outcome {area} {after} {r} o =
-      subst₂ (λ m a. PlansOutcome c v w area (Joined m) a) (sym (starts-length o)) (sym (starts-area o))
-      (joined (d .joined) (d .lead-in))
+  pub word-outcome : {area after : List ℕ} {r m : ℕ} → StartsWith (normalForm c (take end row)) area after r
+      → m ≡ loopsRounds c v w → PlansOutcome c v w area (Joined r m) after
+  word-outcome {area} {after} {r} {m} o e =
+      subst (λ i. PlansOutcome c v w area (Joined r i) after) (sym e)
+      (subst₂ (λ l a. PlansOutcome c v w area (Joined l (loopsRounds c v w)) a) (sym (starts-length o))
+      (sym (starts-area o)) (joined (d .joined) (d .lead-in)))

@@ -32,10 +32,11 @@ fn lead_in_word(
 {
     let at = append(row, 0, lead1);
     let way = join_cores(core1, core2, commands, conflicts, row, at);
-    let Outcome::Joined(end) = way else {
+    let Outcome::Joined { end, rounds } = way else {
         return way;
     };
-    Outcome::Joined(append_undone(row, end, lead2))
+    let last = append_undone(row, end, lead2);
+    Outcome::Joined { end: last, rounds }
 }
 
 // As `lead_in_word`, with the lead-in in normal form at the start of the area. The row is worked in.
@@ -55,8 +56,12 @@ pub fn lead_in_form(
         (now (core2 .entry)) (now (lead2 .entry)) commands (now (area .entry)) r (now (area .exit)) ⌝ }
 {
     let way = lead_in_word(core1, lead1, core2, lead2, commands, conflicts, row);
-    let Outcome::Joined(end) = way else {
+    let Outcome::Joined { end, rounds } = way else {
         return way;
     };
-    Outcome::Joined(form(&row[..end], conflicts, area))
+    let length = form(&row[..end], conflicts, area);
+    Outcome::Joined {
+        end: length,
+        rounds,
+    }
 }

@@ -22,7 +22,7 @@ use Rattle.spec.specs.Byte.{commandOf}
 use Rattle.spec_laws.specs.CommandLaws.{isCommand-undone}
 use Rattle.spec.specs.Letters.{alphabet}
 use Rattle.spec_laws.specs.LettersLaws.{commands-range}
-use Rattle.conjugacy_ring.specs.Ring.{Cyclic}
+use Rattle.conjugacy_settled_parts.specs.PartOf.{Cyclic}
 use Rattle.conjugacy_of_cores.specs.Pair.{Conjugator, CoresJoined}
 
 -- nothing at all is short, for with no commands there are no letters
@@ -36,15 +36,16 @@ module _ {c : List ℕ} {conflicts : List (List ℕ)} {x : List ℕ} (k : Cyclic
   range : All (λ a. (1 ≤ commandOf a) × (commandOf a ≤ commands c)) x
   range = commands-range (commands c) x (k .few) (k .letters)
 
-  pub cores-same : {y : List ℕ} (row : List ℕ) (at : ℕ) → x ≡ y → CoresJoined c x y row at row at
-  cores-same row at e = record {
+  pub cores-same : {y row row′ : List ℕ} {at : ℕ} → x ≡ y → take at row′ ≡ take at row
+      → CoresJoined c x y row at row′ at
+  cores-same {row = row} {at = at} e f = record {
     word = [];
     conjugator = record {
       conjugates = ≈-of-≡ (alphabet c) (conj-nil (alphabet c) x ∙ e);
       letters = tt;
       short = omega (arith, none-short (commands c) (length x) (none-occur (alphabet c) (commands c) x range));
     };
-    written = sym (append-nil (take at row));
+    written = f ∙ sym (append-nil (take at row));
     ends = omega arith;
   }
 

@@ -1,5 +1,6 @@
-pub mod ApexLaws
+pub mod AppendLaws
 pub mod CoreLaws
+pub mod CountLaws
 pub mod Pair
 pub mod ConjugatorLaws
 pub mod PlaceLaws

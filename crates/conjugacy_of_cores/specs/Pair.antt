@@ -1,28 +1,24 @@
 -- What joining two cores, all parts or one, asks and gives. The lead-ins of the parts are written one after the other
 -- behind what stands in a row.
-use Prim.Native.Nat.{ℕ, zero, suc, _+_, _*_, _≤_}
+use Prim.Native.Nat.{ℕ, _+_, _*_, _≤_, max}
 use mathlib.Core.Path.{_≡_}
-use mathlib.Core.Bool.{false, _&&_}
-use mathlib.Core.List.{List, [], _++_}
-use lib.ListN.{length, take, getD}
-use lib.Dec.{eqb}
+use mathlib.Core.Bool.{false}
+use mathlib.Core.List.{List, _++_}
+use lib.ListN.{length, take}
 use Rattle.spec.specs.Catalogue as Catalogue
 use Rattle.theory_words.specs.Group.{_≈_, conj}
 use Rattle.spec.specs.Letters.{alphabet}
 use Rattle.spec_laws.specs.LettersLaws.{Commands}
-use Rattle.theory_words.specs.Filter.{keepIf}
 use Rattle.theory_conjugacy.specs.Part.{commands, label, apexes}
 use Rattle.theory_conjugacy.specs.PartLaws.{shares}
 use Rattle.theory_conjugacy.specs.Decision.{cores-joined?}
+use Rattle.theory_conjugacy.specs.Rounds.{core-rounds}
 use Rattle.conjugacy_commands.specs.Flags.{Flags}
-use Rattle.conjugacy_ring.specs.Ring.{Cyclic}
+use Rattle.conjugacy_settled_parts.specs.PartOf.{Cyclic}
+use Rattle.conjugacy_rounds.specs.Apexes.{apexAt, apexesFrom}
 use Rattle.conjugacy_of_parts.specs.declared.Outcome.{Outcome}
 use Rattle.conjugacy_of_parts.specs.declared.Outcome.the-variants.{Joined, Apart, Unsettled}
-use Rattle.conjugacy_of_parts.specs.Parts.{Two, PartsJoined}
-
--- command k + 1, if it is flagged and its own label
-unfoldable pub apexAt : List ℕ → List ℕ → ℕ → List ℕ
-apexAt fs labels k = keepIf (eqb (getD fs k 0) 1 && eqb (getD labels k 0) (k + 1)) (k + 1) []
+use Rattle.conjugacy_of_parts.specs.Parts.{Two, PartsJoined, bothRounds}
 
 -- two cores in which the same commands occur: the flags tell which, and the rounds are as many as commands
 pub record Flagged (c : List ℕ) (conflicts : List (List ℕ)) (core1 core2 fs labels : List ℕ) (rounds : ℕ)
@@ -68,21 +64,27 @@ pub record CoresJoined (c core1 core2 before : List ℕ) (at : ℕ) (after : Lis
   pub written : take end after ≡ take at before ++ word
   pub ends : end ≡ at + length word
 
--- what an outcome says of two cores: a conjugator is written, or there is none; every part is settled
+-- the most rounds that a part of either core needs
+abbrev pub coresRounds : List ℕ → List ℕ → List ℕ → ℕ
+coresRounds c core1 core2 = max (core-rounds (alphabet c) core1) (core-rounds (alphabet c) core2)
+
+-- what an outcome says of two cores: a conjugator is written, or there is none; every part is settled and counted
 abbrev pub CoresOutcome : List ℕ → List ℕ → List ℕ → List ℕ → ℕ → List ℕ → Outcome → Type 0
-CoresOutcome c x y before at after (Joined end) = CoresJoined c x y before at after end
-CoresOutcome c x y before at after Apart = cores-joined? (alphabet c) x y ≡ false
+CoresOutcome c x y before at after (Joined end n) = CoresJoined c x y before at after end × (n ≡ coresRounds c x y)
+CoresOutcome c x y before at after (Apart n) = (cores-joined? (alphabet c) x y ≡ false) × (n ≡ coresRounds c x y)
 CoresOutcome c x y before at after (Unsettled p) = ⊥
 
--- the apexes among n commands from k + 1 on
-unfoldable pub apexesFrom : List ℕ → List ℕ → ℕ → ℕ → List ℕ
-apexesFrom fs labels zero k = []
-apexesFrom fs labels (suc n) k = apexAt fs labels k ++ apexesFrom fs labels n (k + 1)
+-- a part that is apart, with the larger of its rounds and of those of the others
+abbrev pub stoppedAt : Outcome → ℕ → Outcome
+stoppedAt (Joined end n) m = Joined end n
+stoppedAt (Apart n) m = Apart (max m n)
+stoppedAt (Unsettled p) m = Unsettled p
 
--- the apexes up to command k are joined, and their lead-ins stand in the row
-pub record Sofar (c core1 core2 fs labels before : List ℕ) (at : ℕ) (after : List ℕ) (end k : ℕ) : Type 0 where
+-- the apexes up to command k are joined, their lead-ins stand in the row, and their rounds are counted
+pub record Sofar (c core1 core2 fs labels before : List ℕ) (at : ℕ) (after : List ℕ) (end most k : ℕ) : Type 0 where
   pub done : List ℕ
   pub left : ℕ
   pub count : left + k ≡ 24
   pub all : done ++ apexesFrom fs labels left k ≡ apexes (alphabet c) core1
   pub parts : PartsJoined c core1 core2 done before at after end
+  pub rounds : most ≡ bothRounds c done core1 core2

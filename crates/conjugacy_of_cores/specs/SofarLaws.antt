@@ -1,5 +1,6 @@
--- The loop over the commands: the lead-ins of the apexes passed stand in the row, which has room for the next.
-use Prim.Native.Nat.{ℕ, zero, suc, _+_, _*_, _≤_, _<_}
+-- The loop over the commands: the lead-ins of the apexes passed stand in the row, which has room for the next, and the
+-- rounds of their parts are counted.
+use Prim.Native.Nat.{ℕ, zero, suc, _+_, _*_, _-_, _≤_, _<_, max}
 use native.Mathlib.Omega.{arith}
 use native.Mathlib.Nat.{mul-le-mul-left, mul-add, add-mul}
 use mathlib.Core.Path.{_≡_, refl, sym, _∙_, ap, subst}
@@ -20,12 +21,15 @@ use Rattle.theory_conjugacy.specs.Decision.{part-ring, rotated?, parts-joined?}
 use Rattle.theory_conjugacy.specs.LeadIn.{parts-lead}
 use Rattle.theory_conjugacy.specs.LeadInLaws.{apical-part, parts-length}
 use Rattle.theory_conjugacy.specs.JoinLaws.{parts-lead-length}
+use Rattle.theory_conjugacy.specs.Rounds.{most-rounds}
+use Rattle.conjugacy_rounds.specs.Apexes.{apexAt, apexesFrom}
+use Rattle.conjugacy_rounds.specs.ApexesLaws.{apexes-from}
 use Rattle.conjugacy_of_parts.specs.declared.Outcome.{Outcome}
 use Rattle.conjugacy_of_parts.specs.declared.Outcome.the-variants.{Joined, Apart, Unsettled}
 use Rattle.conjugacy_of_parts.specs.Outcomes.{Stops}
-use Rattle.conjugacy_of_parts.specs.Parts.{PartsJoined, PartsOutcome}
-use Rattle.conjugacy_of_cores.specs.Pair.{apexAt, partsOf, apexesFrom, Flagged, Placeable, Sofar}
-use Rattle.conjugacy_of_cores.specs.ApexLaws.{shares-append, joined-append, lead-append, apexes-from}
+use Rattle.conjugacy_of_parts.specs.Parts.{PartsJoined, bothRounds, PartsOutcome}
+use Rattle.conjugacy_of_cores.specs.Pair.{partsOf, Flagged, Placeable, stoppedAt, Sofar}
+use Rattle.conjugacy_of_cores.specs.AppendLaws.{shares-append, joined-append, lead-append, rounds-append}
 
 -- no lead-in yet
 pub joined-none : (c x y row : List ℕ) (at : ℕ) → PartsJoined c x y [] row at row at
@@ -92,15 +96,21 @@ doubled n i l m e h =
     let t : 2 * n ≡ n + n = omega arith in
     omega (arith, ap (λ j. j * l) t, add-mul n n l, mul-add n l m, ap (λ j. n * j) e)
 
+-- those before, those behind and this one, in any order
+max-behind : {most m n r d a v : ℕ} → most ≡ d → n ≡ a → r ≡ v → m ≡ max most r → max m n ≡ max d (max a v)
+max-behind e f g h = omega arith
+
 module _ {c : List ℕ} {conflicts : List (List ℕ)} {x y fs labels : List ℕ} {rounds : ℕ}
     (h : Flagged c conflicts x y fs labels rounds) where
-  pub sofar-start : (row : List ℕ) (at : ℕ) → Sofar c x y fs labels row at row at 0
+  pub sofar-start : (row : List ℕ) (at : ℕ) → Sofar c x y fs labels row at row at 0 0
+  unfolding most-rounds
   sofar-start row at = record {
     done = [];
     left = 24;
     count = refl;
     all = apexes-from c x (h .flags) (h .two .first .labelled);
     parts = joined-none c x y row at;
+    rounds = refl;
   }
 
   range : (j : ℕ) → Occurs (alphabet c) j x → (1 ≤ j) × (j ≤ rounds)
@@ -118,7 +128,7 @@ module _ {c : List ℕ} {conflicts : List (List ℕ)} {x y fs labels : List ℕ}
       doubled rounds (length (parts-lead (alphabet c) ms x y)) (length (partsOf c ms x)) (length (partsOf c ms y))
       (parts-of-joined c x y (h .two .same) ms w (l .joined)) (omega arith)
 
-  module _ {before after : List ℕ} {at end k : ℕ} (s : Sofar c x y fs labels before at after end k) where
+  module _ {before after : List ℕ} {at end most k : ℕ} (s : Sofar c x y fs labels before at after end most k) where
     abbrev rest : List ℕ
     rest = apexesFrom fs labels (s .left) k
 
@@ -162,10 +172,10 @@ module _ {c : List ℕ} {conflicts : List (List ℕ)} {x y fs labels : List ℕ}
         (lead-ins-short (s .done) within (s .parts)) (omega (arith, mul-le-mul-left rounds t)) in
         omega (arith, q, s .parts .ends)
 
-    pub sofar-again : {after′ : List ℕ} {end′ : ℕ} → k < 24
-        → PartsJoined c x y (apexAt fs labels k) after end after′ end′
-        → Sofar c x y fs labels before at after′ end′ (k + 1)
-    sofar-again l d =
+    pub sofar-again : {after′ : List ℕ} {end′ n m : ℕ} → k < 24
+        → PartsOutcome c x y (apexAt fs labels k) after end after′ (Joined end′ n) → m ≡ max most n
+        → Sofar c x y fs labels before at after′ end′ m (k + 1)
+    sofar-again l (d, t) e =
         let (n, f, g) = rest-next l in
         record {
           done = s .done ++ apexAt fs labels k;
@@ -174,6 +184,7 @@ module _ {c : List ℕ} {conflicts : List (List ℕ)} {x y fs labels : List ℕ}
           all = append-assoc (s .done) (apexAt fs labels k) (apexesFrom fs labels n (k + 1))
               ∙ ap (λ (z : List ℕ). s .done ++ z) (sym g) ∙ s .all;
           parts = parts-joined-append (s .done) (apexAt fs labels k) (s .parts) d;
+          rounds = omega (arith, s .rounds, rounds-append c (s .done) (apexAt fs labels k) x y);
         }
 
     apart-all : k < 24 → parts-joined? (alphabet c) (apexAt fs labels k) x y ≡ false
@@ -190,17 +201,31 @@ module _ {c : List ℕ} {conflicts : List (List ℕ)} {x y fs labels : List ℕ}
           e,
         )
 
-    pub sofar-stop : (after′ : List ℕ) (o : Outcome) → k < 24 → Stops o
-        → PartsOutcome c x y (apexAt fs labels k) after end after′ o
-        → PartsOutcome c x y (apexes (alphabet c) x) before at after′ o
-    sofar-stop after′ (Joined e) l n d = absurd n
-    sofar-stop after′ Apart l n d = apart-all l d
-    sofar-stop after′ (Unsettled p) l n d = d
+    -- with those of the parts behind it, all are counted
+    all-rounds : {n r m : ℕ} → k < 24 → n ≡ bothRounds c (apexAt fs labels k) x y
+        → r ≡ bothRounds c (apexesFrom fs labels (24 - (k + 1)) (k + 1)) x y → m ≡ max most r
+        → max m n ≡ bothRounds c (apexes (alphabet c) x) x y
+    all-rounds l e i f =
+        let (n, t, g) = rest-next l in
+        let a = apexAt fs labels k in
+        let b : List ℕ → ℕ = λ (ms : List ℕ). bothRounds c ms x y in
+        let q : 24 - (k + 1) ≡ n = omega arith in
+        let w = max-behind (s .rounds) e (i ∙ ap (λ j. b (apexesFrom fs labels j (k + 1))) q) f in
+        w ∙ ap (max (b (s .done))) (sym (ap b g ∙ rounds-append c a (apexesFrom fs labels n (k + 1)) x y))
+        ∙ sym (rounds-append c (s .done) rest x y) ∙ ap b (s .all)
 
-    pub sofar-end : (k < 24 → ⊥) → PartsJoined c x y (apexes (alphabet c) x) before at after end
+    pub sofar-stop : (after′ after″ : List ℕ) (o : Outcome) {r m : ℕ} → k < 24 → Stops o
+        → PartsOutcome c x y (apexAt fs labels k) after end after′ o
+        → r ≡ bothRounds c (apexesFrom fs labels (24 - (k + 1)) (k + 1)) x y → m ≡ max most r
+        → PartsOutcome c x y (apexes (alphabet c) x) before at after″ (stoppedAt o m)
+    sofar-stop after′ after″ (Joined e n) l t d i f = absurd t
+    sofar-stop after′ after″ (Apart n) l t (d, e) i f = (apart-all l d, all-rounds l e i f)
+    sofar-stop after′ after″ (Unsettled p) l t d i f = d
+
+    pub sofar-end : (k < 24 → ⊥) → PartsOutcome c x y (apexes (alphabet c) x) before at after (Joined end most)
     unfolding apexesFrom
-    sofar-end n = subst (λ (ms : List ℕ). PartsJoined c x y ms before at after end)
-        (go (s .left) (s .count) (s .all)) (s .parts)
+    sofar-end n = subst (λ (ms : List ℕ). PartsOutcome c x y ms before at after (Joined end most))
+        (go (s .left) (s .count) (s .all)) (s .parts, s .rounds)
       where
         go : (m : ℕ) → m + k ≡ 24 → s .done ++ apexesFrom fs labels m k ≡ apexes (alphabet c) x
             → s .done ≡ apexes (alphabet c) x
@@ -213,7 +238,6 @@ module _ {c : List ℕ} {conflicts : List (List ℕ)} {x y fs labels : List ℕ}
     sofar-placeable e l r = record { flagged = h; room = sofar-room l r e }
 
 -- what one step tells
-
-pub parts-joined : (c x y ms before : List ℕ) (at : ℕ) (after : List ℕ) {o : Outcome} {end : ℕ}
-    → PartsOutcome c x y ms before at after o → o ≡ Joined end → PartsJoined c x y ms before at after end
-parts-joined c x y ms before at after d e = subst (PartsOutcome c x y ms before at after) e d
+pub parts-told : (c x y ms before : List ℕ) (at : ℕ) (after : List ℕ) {o p : Outcome}
+    → PartsOutcome c x y ms before at after o → o ≡ p → PartsOutcome c x y ms before at after p
+parts-told c x y ms before at after d e = subst (PartsOutcome c x y ms before at after) e d

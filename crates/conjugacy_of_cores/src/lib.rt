@@ -7,13 +7,18 @@ use conjugacy_commands::same_commands;
 use conjugacy_labels::labels;
 use conjugacy_of_parts::Outcome;
 use conjugacy_of_parts::join_part;
-ghost use Prim.Native.Nat.{ℕ, _+_, _*_, _<_, _≤_};
+use conjugacy_rounds::is_apex;
+use conjugacy_rounds::larger;
+use conjugacy_rounds::most_rounds;
+ghost use Prim.Native.Nat.{ℕ, _+_, _*_, _-_, _<_, _≤_};
+ghost use mathlib.Core.Path.{_≡_};
 ghost use mathlib.Core.List.{List};
 ghost use lib.ListN.{length};
 ghost use Rattle.spec.specs.Letters.{alphabet};
 ghost use Rattle.theory_conjugacy.specs.Part.{apexes};
-ghost use Rattle.conjugacy_of_parts.specs.Parts.{PartsOutcome};
-ghost use Rattle.conjugacy_of_cores.specs.Pair.{apexAt, Flagged, Placeable, Coreable, CoresOutcome};
+ghost use Rattle.conjugacy_rounds.specs.Apexes.{apexAt, apexesFrom};
+ghost use Rattle.conjugacy_of_parts.specs.Parts.{bothRounds, PartsOutcome};
+ghost use Rattle.conjugacy_of_cores.specs.Pair.{Flagged, Placeable, Coreable, CoresOutcome, stoppedAt};
 
 // Whether the part of command k + 1 is joined, and its lead-in behind the first bytes of the row. A command that does
 // not occur or is not the apex of its part has nothing to join.
@@ -36,16 +41,53 @@ fn join_at(
         → PartsOutcome c (now (core1 .entry)) (now (core2 .entry))
         (apexAt (now (flags .entry)) (now (labels .entry)) k) (now (row .entry)) at (now (row .exit)) r) ⌝ }
 {
-    if flags[k] != 1 {
-        return Outcome::Joined(at);
-    }
-    if labels[k] != (k + 1) as u8 {
-        return Outcome::Joined(at);
+    if !is_apex(flags, labels, k) {
+        return Outcome::Joined { end: at, rounds: 0 };
     }
     join_part(core1, core2, labels, labels[k], rounds, conflicts, row, at)
 }
 
-// Whether all parts are joined, and their lead-ins, one after the other.
+// The most rounds that a part of either core takes, of those whose apex comes after command k + 1.
+fn rest_rounds(
+    core1: &[u8],
+    core2: &[u8],
+    flags: &[u16; 24],
+    labels: &[u8; 24],
+    k: usize,
+    rounds: usize,
+    conflicts: &[[u16; 24]; 24],
+    row: &mut [u8],
+    at: usize,
+) -> usize
+    requires { ⌜ (k < 24) × ((c : List ℕ)
+        × Flagged c (now conflicts) (now core1) (now core2) (now flags) (now labels) rounds
+        × (at + rounds * (length (now core1) + length (now core2)) ≤ length (now row))) ⌝ }
+    ensures { λ r. ⌜ ((c : List ℕ)
+        → Flagged c (now (conflicts .entry)) (now (core1 .entry)) (now (core2 .entry)) (now (flags .entry))
+        (now (labels .entry)) rounds
+        → r ≡ bothRounds c (apexesFrom (now (flags .entry)) (now (labels .entry)) (24 - (k + 1)) (k + 1))
+        (now (core1 .entry)) (now (core2 .entry))) ⌝ }
+{
+    let one = most_rounds(core1, flags, labels, k + 1, 0, rounds, conflicts, row, at);
+    most_rounds(core2, flags, labels, k + 1, one, rounds, conflicts, row, at)
+}
+
+// What a part that is not joined tells of all: they are apart, and the most rounds are those of this part or of the
+// others.
+fn stopped(way: Outcome, others: usize) -> Outcome
+    ensures { λ r. ⌜ r ≡ stoppedAt way others ⌝ }
+{
+    match way {
+        Outcome::Joined { end, rounds } => Outcome::Joined { end, rounds },
+        Outcome::Apart { rounds } => Outcome::Apart {
+            rounds: larger(others, rounds),
+        },
+        Outcome::Unsettled(plan) => Outcome::Unsettled(plan),
+    }
+}
+
+// Whether all parts are joined, and their lead-ins, one after the other. Where one is apart, the parts behind it are
+// still counted.
 fn join_parts(
     core1: &[u8],
     core2: &[u8],
@@ -66,20 +108,27 @@ fn join_parts(
         (now (row .entry)) at (now (row .exit)) r) ⌝ }
 {
     let mut end = at;
+    let mut most = 0;
     let mut k = 0;
     while k < 24 {
         let way = join_at(core1, core2, flags, labels, k, rounds, conflicts, row, end);
-        let Outcome::Joined(next) = way else {
-            return way;
+        let Outcome::Joined {
+            end: next,
+            rounds: count,
+        } = way
+        else {
+            let rest = rest_rounds(core1, core2, flags, labels, k, rounds, conflicts, row, at);
+            return stopped(way, larger(most, rest));
         };
         end = next;
+        most = larger(most, count);
         k += 1;
     }
-    Outcome::Joined(end)
+    Outcome::Joined { end, rounds: most }
 }
 
 // Whether two cores are joined, and the lead-in behind the first bytes of the row: none where they are the same. Cores
-// in which other commands occur are apart.
+// in which other commands occur are apart. The parts of both are counted in any case, once where they are the same.
 pub fn join_cores(
     core1: &[u8],
     core2: &[u8],
@@ -93,14 +142,21 @@ pub fn join_cores(
         → Coreable c (now (conflicts .entry)) (now (core1 .entry)) (now (core2 .entry)) rounds (now (row .entry)) at
         → CoresOutcome c (now (core1 .entry)) (now (core2 .entry)) (now (row .entry)) at (now (row .exit)) r) ⌝ }
 {
-    if same_bytes(core1, core2) {
-        return Outcome::Joined(at);
-    }
     let flags = occurring(core1);
+    let names = labels(&flags, conflicts);
+    if same_bytes(core1, core2) {
+        let most = most_rounds(core1, &flags, &names, 0, 0, rounds, conflicts, row, at);
+        return Outcome::Joined {
+            end: at,
+            rounds: most,
+        };
+    }
     let others = occurring(core2);
     if !same_commands(&flags, &others) {
-        return Outcome::Apart;
+        let one = most_rounds(core1, &flags, &names, 0, 0, rounds, conflicts, row, at);
+        let two = labels(&others, conflicts);
+        let most = most_rounds(core2, &others, &two, 0, one, rounds, conflicts, row, at);
+        return Outcome::Apart { rounds: most };
     }
-    let names = labels(&flags, conflicts);
     join_parts(core1, core2, &flags, &names, rounds, conflicts, row, at)
 }

@@ -10,6 +10,6 @@ use Rattle.conjugacy_of_parts.specs.Outcomes.{Stops}
 use Rattle.conjugacy_of_parts.proofs.Outcome.{the-type}
 
 pub stops : (o : Outcome) → OneOf (1 ∷ 2 ∷ []) (tagOf the-type o) → Stops o
-stops (Joined e) h = absurd (⊎-elim (λ z. omega arith) (λ z. omega arith) h)
-stops Apart h = tt
+stops (Joined e n) h = absurd (⊎-elim (λ z. omega arith) (λ z. omega arith) h)
+stops (Apart n) h = tt
 stops (Unsettled p) h = tt

@@ -1,6 +1,6 @@
 -- The lead-in of one part: the rings of both parts can be found, the way from one to the other has room, and what is
 -- written is the lead-in.
-use Prim.Native.Nat.{ℕ, suc, _+_, _*_, _-_, _≤_}
+use Prim.Native.Nat.{ℕ, suc, _+_, _*_, _-_, _≤_, max}
 use native.Mathlib.Omega.{arith}
 use native.Mathlib.Nat.{mul-add, add-mul}
 use mathlib.Core.Path.{_≡_, sym, _∙_, ap, subst}
@@ -17,29 +17,31 @@ use Rattle.theory_conjugacy.specs.Rotation.{rotation}
 use Rattle.theory_conjugacy.specs.Decision.{part-ring, rotated?, parts-joined?}
 use Rattle.theory_conjugacy.specs.LeadIn.{place, settling, part-lead, parts-lead}
 use Rattle.theory_conjugacy.specs.LeadInLaws.{apical-part, ring-length}
-use Rattle.conjugacy_ring.specs.declared.Ends.{Ends}
-use Rattle.conjugacy_ring.specs.declared.Ringed.{Ringed}
-use Rattle.conjugacy_ring.specs.declared.Ringed.the-variants as ringed
-use Rattle.conjugacy_ring.specs.Ring.{Ringable, Rung, Rings}
-use Rattle.conjugacy_ring.specs.RingLaws.{apex-some, apex-quiet, apex-cycled}
+use Rattle.theory_conjugacy.specs.Rounds.{most-rounds}
+use Rattle.conjugacy_settled_parts.specs.declared.Ends.{Ends}
+use Rattle.conjugacy_settled_parts.specs.declared.SettledPart.{SettledPart}
+use Rattle.conjugacy_settled_parts.specs.declared.SettledPart.the-variants as settled-part
+use Rattle.conjugacy_settled_parts.specs.PartOf.{PartOf}
+use Rattle.conjugacy_settled_parts.specs.PartOfLaws.{apex-some, apex-quiet, apex-cycled}
+use Rattle.conjugacy_ring.specs.Ring.{Rung, Rings}
 use Rattle.conjugacy_of_parts.specs.declared.Outcome.{Outcome}
 use Rattle.conjugacy_of_parts.specs.declared.Outcome.the-variants.{Joined, Apart, Unsettled}
 use Rattle.conjugacy_of_parts.specs.Parts.{RingsRoom, RingsJoined, RingsOutcome}
-use Rattle.conjugacy_of_parts.specs.Parts.{Partable, PartsJoined, PartsOutcome}
+use Rattle.conjugacy_of_parts.specs.Parts.{Partable, PartsJoined, bothRounds, PartsOutcome}
 
-pub rings-of : (c x : List ℕ) (apex rounds : ℕ) (ring out out′ : List ℕ) (at : ℕ) {r : Ringed} {e : Ends}
-    → Rings c x apex rounds ring out out′ at r → r ≡ ringed.Of e → Rung c x apex ring out out′ at e
+pub rings-of : (c x : List ℕ) (apex rounds : ℕ) (ring out out′ : List ℕ) (at : ℕ) {r : SettledPart} {e : Ends}
+    → Rings c x apex rounds ring out out′ at r → r ≡ settled-part.Of e → Rung c x apex ring out out′ at e
 rings-of c x apex rounds ring out out′ at h e = subst (Rings c x apex rounds ring out out′ at) e h
 
 -- a ring that is lent
 
 module _ {c x : List ℕ} {apex : ℕ} {ring out out′ : List ℕ} {at : ℕ} {e : Ends}
     (h : Rung c x apex ring out out′ at e) where
-  pub rung-count : e .ring ≡ length (take (e .ring) ring)
+  pub rung-count : e .letters ≡ length (take (e .letters) ring)
   rung-count = h .count ∙ ap length (sym (h .ring))
 
-  pub rung-fits : e .ring ≤ length ring
-  rung-fits = omega (arith, rung-count, length-take (e .ring) ring)
+  pub rung-fits : e .letters ≤ length ring
+  rung-fits = omega (arith, rung-count, length-take (e .letters) ring)
 
 -- room for both settlings, and for the ring behind them
 behind-first : (n l m i at r : ℕ) → i + n ≤ n * l → at + suc n * (l + m) ≤ r → at + i + suc n * m ≤ r
@@ -79,23 +81,29 @@ module _ {c : List ℕ} {conflicts : List (List ℕ)} {x y labels : List ℕ} {a
   whole-room : at + suc less * (length p + length q) ≤ length row
   whole-room = subst (λ m. at + m * (length p + length q) ≤ length row) rounds-less (k .room)
 
-  pub part-first : (ring : List ℕ) → 1024 ≡ length ring → Ringable c conflicts x labels apex rounds ring row at
-  part-first ring e = record {
+  pub part-first : PartOf c conflicts x labels apex rounds row at
+  part-first = record {
     core = k .two .first;
     apical = k .apical;
     enough = k .enough;
-    fits = omega (arith, k .two .first .cyclic .short);
     room = omega (arith, k .room, mul-add rounds (length p) (length q));
   }
 
+  -- a sheet, with its 1,024 bytes, holds either core
+  pub first-fits : {n : ℕ} → 1024 ≡ n → length x ≤ n
+  first-fits e = omega (arith, k .two .first .cyclic .short)
+
+  pub second-fits : {n : ℕ} → 1024 ≡ n → length y ≤ n
+  second-fits e = omega (arith, k .two .second .cyclic .short)
+
   -- neither is unsettled
-  pub first-settled : (ring out out′ : List ℕ) {r : Ringed} → Rings c x apex rounds ring out out′ at r
-      → r ≡ ringed.Unsettled → ⊥
+  pub first-settled : (ring out out′ : List ℕ) {r : SettledPart} → Rings c x apex rounds ring out out′ at r
+      → r ≡ settled-part.Unsettled → ⊥
   first-settled ring out out′ h e =
       subst (Rings c x apex rounds ring out out′ at) e h (apex-quiet (k .two .first .cyclic) (k .apical) (k .enough))
 
-  pub second-settled : (ring out out′ : List ℕ) (from : ℕ) {r : Ringed} → Rings c y apex rounds ring out out′ from r
-      → r ≡ ringed.Unsettled → ⊥
+  pub second-settled : (ring out out′ : List ℕ) (from : ℕ) {r : SettledPart}
+      → Rings c y apex rounds ring out out′ from r → r ≡ settled-part.Unsettled → ⊥
   second-settled ring out out′ from h e =
       subst (Rings c y apex rounds ring out out′ from) e h
       (apex-quiet (k .two .second .cyclic) part-apex (k .enough))
@@ -109,24 +117,22 @@ module _ {c : List ℕ} {conflicts : List (List ℕ)} {x y labels : List ℕ} {a
         first-cycled whole-room in
         omega (arith, w, f .end)
 
-    pub part-second : (other : List ℕ) → 1024 ≡ length other
-        → Ringable c conflicts y labels apex rounds other row′ (one .cycled)
-    part-second other e = record {
+    pub part-second : PartOf c conflicts y labels apex rounds row′ (one .cycled)
+    part-second = record {
       core = k .two .second;
       apical = part-apex;
       enough = k .enough;
-      fits = omega (arith, k .two .second .cyclic .short);
       room = subst (λ m. one .cycled + m * length q ≤ length row′) (sym rounds-less) first-room;
     }
 
     -- the way from ring to ring
     module _ {other row″ : List ℕ} {two : Ends} (g : Rung c y apex other row′ row″ (one .cycled) two)
         (kept : length row″ ≡ length row′) where
-      first-length : length (take (one .ring) ring) ≡ length p
+      first-length : length (take (one .letters) ring) ≡ length p
       unfolding part-ring
       first-length = ap length (f .ring) ∙ ring-length (alphabet c) (apical-part (alphabet c) x (k .apical))
 
-      pub rings-room : RingsRoom (take (one .ring) ring) row″ (one .cycled) (two .cycled)
+      pub rings-room : RingsRoom (take (one .letters) ring) row″ (one .cycled) (two .cycled)
       rings-room =
           let w = behind-both less (length p) (length q) (length (settling (alphabet c) apex p))
           (length (settling (alphabet c) apex q)) at (length row) first-cycled second-cycled whole-room in
@@ -147,12 +153,12 @@ module _ {c : List ℕ} {conflicts : List (List ℕ)} {x y labels : List ℕ} {a
       way-cycled = g .cycled ∙ ap (λ (z : List ℕ). z ++ settling (alphabet c) apex q) (sym begins)
 
       -- the same with the rings themselves
-      outcome-of-rings : (after : List ℕ) (o : Outcome)
-          → RingsOutcome c (take (one .ring) ring) (take (two .ring) other) (settling (alphabet c) apex q) row″
-          (one .cycled) after o
+      outcome-of-rings : (after : List ℕ) (n : ℕ) (o : Outcome)
+          → RingsOutcome c (take (one .letters) ring) (take (two .letters) other) (settling (alphabet c) apex q) row″
+          (one .cycled) after n o
           → RingsOutcome c (part-ring (alphabet c) apex x) (part-ring (alphabet c) apex y)
-          (settling (alphabet c) apex q) row″ (one .cycled) after o
-      outcome-of-rings after o h = rw (← f .ring, ← g .ring) h
+          (settling (alphabet c) apex q) row″ (one .cycled) after n o
+      outcome-of-rings after n o h = rw (← f .ring, ← g .ring) h
 
       -- it is the lead-in of the part
       part-joined : (after : List ℕ) (end : ℕ)
@@ -179,10 +185,19 @@ module _ {c : List ℕ} {conflicts : List (List ℕ)} {x y labels : List ℕ} {a
       unfolding parts-joined?
       part-apart h = rw h
 
-      pub part-outcome : (after : List ℕ) (o : Outcome)
-          → RingsOutcome c (take (one .ring) ring) (take (two .ring) other) (settling (alphabet c) apex q) row″
-          (one .cycled) after o
+      -- the larger number of rounds is that of both parts
+      part-counted : {m : ℕ} → m ≡ max (one .rounds) (two .rounds) → m ≡ bothRounds c (apex ∷ []) x y
+      unfolding most-rounds
+      part-counted e = omega (arith, f .rounds, g .rounds)
+
+      pub part-outcome : (after : List ℕ) {n : ℕ} → n ≡ max (one .rounds) (two .rounds) → (o : Outcome)
+          → RingsOutcome c (take (one .letters) ring) (take (two .letters) other) (settling (alphabet c) apex q) row″
+          (one .cycled) after n o
           → PartsOutcome c x y (apex ∷ []) row at after o
-      part-outcome after (Joined end) h = part-joined after end (outcome-of-rings after (Joined end) h)
-      part-outcome after Apart h = part-apart (outcome-of-rings after Apart h)
-      part-outcome after (Unsettled n) h = h
+      part-outcome after {n} e (Joined end m) h =
+          let (j, l) = outcome-of-rings after n (Joined end m) h in
+          (part-joined after end j, part-counted (l ∙ e))
+      part-outcome after {n} e (Apart m) h =
+          let (j, l) = outcome-of-rings after n (Apart m) h in
+          (part-apart j, part-counted (l ∙ e))
+      part-outcome after e (Unsettled p) h = h

@@ -1,5 +1,5 @@
 -- What joining one part of two cores asks and gives. Its lead-in is written behind what stands in a row.
-use Prim.Native.Nat.{ℕ, _+_, _*_, _≤_}
+use Prim.Native.Nat.{ℕ, _+_, _*_, _≤_, max}
 use mathlib.Core.Path.{_≡_}
 use mathlib.Core.Bool.{true, false}
 use mathlib.Core.List.{List, [], _++_}
@@ -12,7 +12,8 @@ use Rattle.theory_conjugacy.specs.Part.{commands, apexes, part}
 use Rattle.theory_conjugacy.specs.Rotation.{rotation}
 use Rattle.theory_conjugacy.specs.Decision.{rotated?, parts-joined?}
 use Rattle.theory_conjugacy.specs.LeadIn.{place, parts-lead}
-use Rattle.conjugacy_ring.specs.Ring.{Labelled}
+use Rattle.theory_conjugacy.specs.Rounds.{most-rounds}
+use Rattle.conjugacy_settled_parts.specs.PartOf.{Labelled}
 use Rattle.conjugacy_of_parts.specs.declared.Outcome.{Outcome}
 use Rattle.conjugacy_of_parts.specs.declared.Outcome.the-variants.{Joined, Apart, Unsettled}
 
@@ -29,11 +30,14 @@ pub record RingsJoined (c ring other cycled before : List ℕ) (at : ℕ) (after
       ≡ take at before ++ (take (place (rotation (alphabet c) ring other)) ring ++ undo (alphabet c) cycled [])
   pub ends : end ≡ at + length (take (place (rotation (alphabet c) ring other)) ring ++ undo (alphabet c) cycled [])
 
--- what an outcome says of two rings: they are rotations of one another and the way is written, or they are none
-abbrev pub RingsOutcome : List ℕ → List ℕ → List ℕ → List ℕ → List ℕ → ℕ → List ℕ → Outcome → Type 0
-RingsOutcome c ring other cycled before at after (Joined end) = RingsJoined c ring other cycled before at after end
-RingsOutcome c ring other cycled before at after Apart = rotated? (alphabet c) ring other ≡ false
-RingsOutcome c ring other cycled before at after (Unsettled p) = ⊥
+-- what an outcome says of two rings: they are rotations of one another and the way is written, or they are none; and
+-- the rounds passed on
+abbrev pub RingsOutcome : List ℕ → List ℕ → List ℕ → List ℕ → List ℕ → ℕ → List ℕ → ℕ → Outcome → Type 0
+RingsOutcome c ring other cycled before at after rounds (Joined end n) =
+    RingsJoined c ring other cycled before at after end × (n ≡ rounds)
+RingsOutcome c ring other cycled before at after rounds (Apart n) =
+    (rotated? (alphabet c) ring other ≡ false) × (n ≡ rounds)
+RingsOutcome c ring other cycled before at after rounds (Unsettled p) = ⊥
 
 -- two cores in which the same commands occur, and their labels
 pub record Two (c : List ℕ) (conflicts : List (List ℕ)) (core1 core2 labels : List ℕ) : Type 0 where
@@ -57,8 +61,14 @@ pub record PartsJoined (c core1 core2 ms before : List ℕ) (at : ℕ) (after : 
   pub written : take end after ≡ take at before ++ parts-lead (alphabet c) ms core1 core2
   pub ends : end ≡ at + length (parts-lead (alphabet c) ms core1 core2)
 
+-- the most rounds that the parts with these apexes need, in one core or the other
+abbrev pub bothRounds : List ℕ → List ℕ → List ℕ → List ℕ → ℕ
+bothRounds c ms core1 core2 = max (most-rounds (alphabet c) ms core1) (most-rounds (alphabet c) ms core2)
+
 -- what an outcome says of the parts with these apexes; every part is settled by so many rounds
 abbrev pub PartsOutcome : List ℕ → List ℕ → List ℕ → List ℕ → List ℕ → ℕ → List ℕ → Outcome → Type 0
-PartsOutcome c x y ms before at after (Joined end) = PartsJoined c x y ms before at after end
-PartsOutcome c x y ms before at after Apart = parts-joined? (alphabet c) ms x y ≡ false
+PartsOutcome c x y ms before at after (Joined end n) =
+    PartsJoined c x y ms before at after end × (n ≡ bothRounds c ms x y)
+PartsOutcome c x y ms before at after (Apart n) =
+    (parts-joined? (alphabet c) ms x y ≡ false) × (n ≡ bothRounds c ms x y)
 PartsOutcome c x y ms before at after (Unsettled p) = ⊥

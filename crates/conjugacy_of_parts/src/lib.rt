@@ -5,43 +5,52 @@
 use array_row::append_undone;
 use array_row::sheet;
 use array_row::undo_between;
-use conjugacy_ring::Ringed;
 use conjugacy_ring::ring_of;
 use conjugacy_rotation::Start;
 use conjugacy_rotation::rotation;
+use conjugacy_rounds::larger;
+use conjugacy_settled_parts::SettledPart;
 ghost use Prim.Native.Nat.{ℕ};
 ghost use mathlib.Core.Path.{_≡_};
 ghost use mathlib.Core.List.{List, [], _∷_, _++_};
 ghost use lib.ListN.{take};
 ghost use Rattle.conjugacy_of_parts.specs.Parts.{RingsRoom, RingsOutcome, Partable, PartsOutcome};
 
-// Two loops are joined, by a lead-in that ends here, or apart; or a part of plan 1 or 2 is unsettled.
+// Two loops are joined, by a lead-in that ends here, or apart, and the most rounds that a part took; or a part of plan
+// 1 or 2 is unsettled.
 pub enum Outcome {
-    Joined(usize),
-    Apart,
+    Joined { end: usize, rounds: usize },
+    Apart { rounds: usize },
     Unsettled(u8),
 }
 
 // Whether a ring is a rotation of another, and the way between them behind the first bytes of the row: the ring up to
 // the place at which they agree, and the letters cycled, undone. Those stand in the row up to `at`; the ring's letters
-// are put behind them, undone, and then all of it is undone where it stands.
-fn join_rings(ring: &[u8], other: &[u8], row: &mut [u8], from: usize, at: usize) -> Outcome
+// are put behind them, undone, and then all of it is undone where it stands. The rounds are passed on.
+fn join_rings(
+    ring: &[u8],
+    other: &[u8],
+    row: &mut [u8],
+    from: usize,
+    at: usize,
+    rounds: usize,
+) -> Outcome
     requires { ⌜ RingsRoom (now ring) (now row) from at ⌝ }
     ensures { λ r. ⌜ ((c cycled : List ℕ) → take at (now (row .entry)) ≡ take from (now (row .entry)) ++ cycled
-        → RingsOutcome c (now (ring .entry)) (now (other .entry)) cycled (now (row .entry)) from (now (row .exit)) r)
-        ⌝ }
+        → RingsOutcome c (now (ring .entry)) (now (other .entry)) cycled (now (row .entry)) from (now (row .exit))
+        rounds r) ⌝ }
 {
     let found = rotation(ring, other);
     let Start::At(start) = found else {
-        return Outcome::Apart;
+        return Outcome::Apart { rounds };
     };
     let end = append_undone(row, at, &ring[..start]);
     undo_between(row, from, end);
-    Outcome::Joined(end)
+    Outcome::Joined { end, rounds }
 }
 
 // Whether the first core's part with this apex is joined to the second's, and the lead-in behind the first bytes of the
-// row.
+// row; with the rounds of the one that took more.
 pub fn join_part(
     core1: &[u8],
     core2: &[u8],
@@ -63,19 +72,20 @@ pub fn join_part(
     let mut ring = sheet();
     let mut other = sheet();
     let first = ring_of(core1, labels, apex, rounds, conflicts, &mut ring, row, at);
-    let Ringed::Of(one) = first else {
+    let SettledPart::Of(one) = first else {
         return Outcome::Unsettled(1);
     };
     let end = one.cycled;
     let second = ring_of(core2, labels, apex, rounds, conflicts, &mut other, row, end);
-    let Ringed::Of(two) = second else {
+    let SettledPart::Of(two) = second else {
         return Outcome::Unsettled(2);
     };
     join_rings(
-        &ring[..one.ring],
-        &other[..two.ring],
+        &ring[..one.letters],
+        &other[..two.letters],
         row,
         one.cycled,
         two.cycled,
+        larger(one.rounds, two.rounds),
     )
 }

@@ -1,25 +1,15 @@
 // The ring of one part of a core: the part is settled on its apex, and the settled word put in normal form.
 
 use array_row::sheet;
-use conjugacy_parts::part;
-use conjugacy_settling::Settled;
-use conjugacy_settling::settle;
+use conjugacy_settled_parts::Ends;
+use conjugacy_settled_parts::SettledPart;
+use conjugacy_settled_parts::settle_part;
 use long_form::form;
-ghost use Prim.Native.Nat.{ℕ};
+ghost use Prim.Native.Nat.{ℕ, _≤_};
 ghost use mathlib.Core.List.{List};
-ghost use Rattle.conjugacy_ring.specs.Ring.{Ringable, Rings};
-
-// The length of a ring, and the end of the letters that settling cycled.
-pub struct Ends {
-    pub ring: usize,
-    pub cycled: usize,
-}
-
-// Whether the rounds were enough.
-pub enum Ringed {
-    Of(Ends),
-    Unsettled,
-}
+ghost use lib.ListN.{length};
+ghost use Rattle.conjugacy_settled_parts.specs.PartOf.{PartOf};
+ghost use Rattle.conjugacy_ring.specs.Ring.{Rings};
 
 // The ring of the core's part with this apex, and from a place in cycled on the letters that settling cycles.
 pub fn ring_of(
@@ -31,32 +21,24 @@ pub fn ring_of(
     ring: &mut [u8],
     cycled: &mut [u8],
     at: usize,
-) -> Ringed
-    requires { ⌜ ((c : List ℕ) × Ringable c (now conflicts) (now core) (now labels) apex rounds (now ring)
-        (now cycled) at) ⌝ }
+) -> SettledPart
+    requires { ⌜ ((c : List ℕ) × PartOf c (now conflicts) (now core) (now labels) apex rounds (now cycled) at)
+        × (length (now core) ≤ length (now ring)) ⌝ }
     ensures { λ r. ⌜ ((c : List ℕ)
-        → Ringable c (now (conflicts .entry)) (now (core .entry)) (now (labels .entry)) apex rounds
-        (now (ring .entry)) (now (cycled .entry)) at
-        → Rings c (now (core .entry)) apex rounds (now (ring .exit)) (now (cycled .entry)) (now (cycled .exit)) at r)
-        ⌝ }
+        → PartOf c (now (conflicts .entry)) (now (core .entry)) (now (labels .entry)) apex rounds
+        (now (cycled .entry)) at
+        → Rings c (now (core .entry)) apex rounds (now (ring .exit)) (now (cycled .entry))
+        (now (cycled .exit)) at r) ⌝ }
 {
     let mut word = sheet();
-    let mut low = sheet();
-    let mut high = sheet();
-    let n = part(core, labels, apex, &mut word);
-    let settled = settle(
-        &mut word[..n],
-        apex as usize,
-        rounds,
-        conflicts,
-        &mut low,
-        &mut high,
-        cycled,
-        at,
-    );
-    let Settled::Done(end) = settled else {
-        return Ringed::Unsettled;
+    let settled = settle_part(core, labels, apex, rounds, conflicts, &mut word, cycled, at);
+    let SettledPart::Of(ends) = settled else {
+        return SettledPart::Unsettled;
     };
-    let ring = form(&word[..n], conflicts, ring);
-    Ringed::Of(Ends { ring, cycled: end })
+    let letters = form(&word[..ends.letters], conflicts, ring);
+    SettledPart::Of(Ends {
+        letters,
+        cycled: ends.cycled,
+        rounds: ends.rounds,
+    })
 }

@@ -11,8 +11,9 @@ use Rattle.theory_words.specs.All.{All, all-along, all-append, all-left, all-ri
 use Rattle.theory_words.specs.TraceLaws.{~-length}
 use Rattle.input_plan.specs.Lettered.{Lettered}
 use Rattle.spec.specs.Letters.{alphabet}
-use Rattle.theory_conjugacy.specs.Settle.{split, settled, settled-step, cycled, cycled-step}
+use Rattle.theory_conjugacy.specs.Settle.{split, settled, settled-step, cycled, cycled-step, counted}
 use Rattle.theory_conjugacy.specs.SettleLaws.{split-splits, split-~}
+use Rattle.theory_conjugacy.specs.RoundsLaws.{counted-quiet, counted-turn}
 use Rattle.conjugacy_settling.specs.declared.Halves.{Halves}
 use Rattle.conjugacy_settling.specs.Halving.{Splittable, Halved}
 use Rattle.array_row.specs.RowLaws.{appended-length}
@@ -118,6 +119,7 @@ pub record Reached (c : List ℕ) (apex rounds : ℕ) (word₀ out₀ : List ℕ
   pub room : end + left * length word₀ ≤ at + rounds * length word₀
   pub onward : settled (alphabet c) apex rounds word₀ ≡ settled (alphabet c) apex left word
   pub more : cycled (alphabet c) apex rounds word₀ ≡ g ++ cycled (alphabet c) apex left word
+  pub count : counted (alphabet c) apex rounds word₀ ≡ (rounds - left) + counted (alphabet c) apex left word
 
 pub record Rounds (word₀ : List ℕ) (apex rounds : ℕ) (conflicts : List (List ℕ)) (low₀ high₀ out₀ : List ℕ) (at : ℕ)
     (word low high out : List ℕ) (end left : ℕ) : Type 0 where
@@ -125,6 +127,7 @@ pub record Rounds (word₀ : List ℕ) (apex rounds : ℕ) (conflicts : List (Li
   pub sameLow : length low ≡ length low₀
   pub sameHigh : length high ≡ length high₀
   pub sameOut : length out ≡ length out₀
+  pub fewer : left ≤ rounds
   pub reached : (c : List ℕ) → Settleable c word₀ rounds conflicts low₀ high₀ out₀ at
       → Reached c apex rounds word₀ out₀ at word out end left
 
@@ -135,6 +138,7 @@ module _ {word₀ : List ℕ} {apex rounds : ℕ} {conflicts : List (List ℕ)} 
     sameLow = refl;
     sameHigh = refl;
     sameOut = refl;
+    fewer = omega arith;
     reached = λ c g. record {
       letters = g .splittable .letters;
       g = [];
@@ -143,6 +147,7 @@ module _ {word₀ : List ℕ} {apex rounds : ℕ} {conflicts : List (List ℕ)} 
       room = omega arith;
       onward = refl;
       more = refl;
+      count = omega arith;
     };
   }
 
@@ -170,7 +175,7 @@ module _ {word₀ : List ℕ} {apex rounds : ℕ} {conflicts : List (List ℕ)} 
       rounds-exchange {c} g l = let s = rounds-splittable g in halved-exchange (f c s) s (rounds-room g l)
 
       pub rounds-done : ends .low ≡ 0 → (c : List ℕ) → Settleable c word₀ rounds conflicts low₀ high₀ out₀ at
-          → Ended c apex rounds word₀ word out₀ out at end
+          → Ended c apex rounds word₀ word out₀ out at end (rounds - left)
       rounds-done e c g =
           let t = r .reached c g in
           let Γ = alphabet c in
@@ -184,6 +189,7 @@ module _ {word₀ : List ℕ} {apex rounds : ℕ} {conflicts : List (List ℕ)} 
             written = rw y (t .written);
             end = rw y (t .ended);
             room = omega (arith, t .room);
+            count = omega (arith, t .count, counted-quiet Γ apex left word z);
           }
 
       pub rounds-unsettled : left ≡ 0 → ¬ (ends .low ≡ 0) → (c : List ℕ)
@@ -205,6 +211,7 @@ module _ {word₀ : List ℕ} {apex rounds : ℕ} {conflicts : List (List ℕ)} 
         sameLow = b ∙ r .sameLow;
         sameHigh = d ∙ r .sameHigh;
         sameOut = e ∙ r .sameOut;
+        fewer = omega (arith, r .fewer);
         reached = λ c g. go c (r .reached c g) (f c (rounds-splittable g));
       }
         where
@@ -232,4 +239,12 @@ module _ {word₀ : List ℕ} {apex rounds : ℕ} {conflicts : List (List ℕ)} 
                     ∙ ap (λ (i : ℕ). t .g ++ cycled Γ apex i word) k
                     ∙ ap (λ (z : List ℕ). t .g ++ z) (y ∙ ap (λ (z : List ℕ). p ++ cycled Γ apex (left - 1) z) (sym v))
                     ∙ sym (append-assoc (t .g) p (cycled Γ apex (left - 1) word′));
+                count = omega (
+                  arith,
+                  t .count,
+                  r .fewer,
+                  ap (λ (i : ℕ). counted Γ apex i word) k,
+                  counted-turn Γ apex (left - 1) word o,
+                  ap (counted Γ apex (left - 1)) v,
+                );
               }

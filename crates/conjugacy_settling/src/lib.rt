@@ -18,9 +18,9 @@ struct Halves {
     high: usize,
 }
 
-// Whether the rounds were enough, and then the end of the letters that they cycled.
+// Whether the rounds were enough, and then the end of the letters that they cycled and how many it took.
 pub enum Settled {
-    Done(usize),
+    Done { end: usize, rounds: usize },
     Unsettled,
 }
 
@@ -139,7 +139,8 @@ pub fn settle(
         let ends = split(word, apex, conflicts, low, high);
         let lower = ends.low;
         if lower == 0 {
-            return Settled::Done(end);
+            let count = rounds - left;
+            return Settled::Done { end, rounds: count };
         }
         if left == 0 {
             return Settled::Unsettled;

@@ -9,16 +9,18 @@ use mathlib.Core.Option.{Option, none, some}
 use lib.ListN.{length, take, drop}
 use borrow.Author.Tests.{le-ltb}
 use Rattle.spec.specs.Table.{Line, line, lineOf, Answer, refused, given, firstLine, orElse}
-use Rattle.spec_laws.specs.TableLaws.{none-left, none-right}
+use Rattle.spec_laws.specs.TableLaws.{none-left, none-right, none-some}
 use Rattle.spec.specs.declared.Refusal.{Refusal}
 use Rattle.theory_conjugacy.specs.Decision.{joined?}
 use Rattle.spec.specs.Catalogue.{commands, catalogueLines}
 use Rattle.spec.specs.Plan.{planLines}
 use Rattle.spec_laws.specs.PlanLaws.{lines-pass}
 use Rattle.spec.specs.Letters.{letters, alphabet}
-use Rattle.spec.specs.Answers.{toldWritten, toldLoops}
+use Rattle.spec.specs.Answers.{toldWritten, toldLoops, DecidedLoops}
 use Rattle.spec.specs.Calls.{planLimit, areaLine, normalFormLines, coreForm, coreAnswer}
 use Rattle.spec_laws.specs.CallLaws.{few-commands}
+use Rattle.spec_laws.specs.SearchLaws.{given-not}
+use Rattle.spec_laws.specs.LoopLaws.{lead-in-same}
 use Rattle.spec.specs.Loops.{loopsLines, leadInRoom, unsettledLine, Looped, refuses, apart, joined}
 use Rattle.spec.specs.declared.Written.{Written}
 use Rattle.spec.specs.declared.Written.the-variants as written
@@ -103,11 +105,15 @@ module _ (c v area : List ℕ) (h : 1024 ≡ length area) (r : Written) (t : tol
 
 -- What the loops call's answer tells
 
--- the call's answer, with n for the length of the lead-in
-abbrev recount : Answer (Option ℕ) → ℕ → Answer (Option ℕ)
+-- nothing where the loops are apart, and n where they are joined
+abbrev counted : Option ℕ → ℕ → Option ℕ
+counted none n = none
+counted (some l) n = some n
+
+-- the call's answer, with n for the length of the lead-in and without the rounds
+abbrev recount : Answer DecidedLoops → ℕ → Answer (Option ℕ)
 recount (refused l) n = refused l
-recount (given none) n = given none
-recount (given (some l)) n = given (some n)
+recount (given d) n = given (counted (d .lead-in) n)
 
 module _ (c v w area : List ℕ) (h : 49152 ≡ length area) where
   first-as-call : {o : Option Line} → firstLine (loopsLines c v w area) ≡ o → firstLine (programLines c v w) ≡ o
@@ -118,28 +124,28 @@ module _ (c v w area : List ℕ) (h : 49152 ≡ length area) where
       → loopsVerdict c v w ≡ orElse o (joined-step b (length (coreForm c v)))
   verdict-as-call e j = ap₂ (λ o b. orElse o (joined-step b (length (coreForm c v)))) (first-as-call e) j
 
-  recounted : {a : Answer (Option ℕ)} {after : List ℕ} → Looped c v w area a after
+  recounted : {a : Answer DecidedLoops} {after : List ℕ} → Looped c v w area a after
       → recount a (length (coreForm c v)) ≡ loopsVerdict c v w
   recounted (refuses e) = sym (verdict-as-call e refl)
   recounted (apart e j) = sym (verdict-as-call e j)
   recounted (joined e j k) = sym (verdict-as-call e j)
 
-  core-passes : {a : Answer (Option ℕ)} {after : List ℕ} {l : ℕ} → Looped c v w area a after → a ≡ given (some l)
-      → firstLine (coreLines c v) ≡ none
-  core-passes (refuses e) k = absurd (let z : _≡_ {A = ℕ} 0 1 = cc in omega arith)
-  core-passes (apart e j) k = absurd (let z : _≡_ {A = ℕ} 0 1 = cc in omega arith)
+  core-passes : {a : Answer DecidedLoops} {after : List ℕ} {l n : ℕ} → Looped c v w area a after
+      → a ≡ given (record { lead-in = some l; rounds = n }) → firstLine (coreLines c v) ≡ none
+  core-passes (refuses e) k = absurd (given-not (sym k))
+  core-passes (apart e j) k = absurd (none-some (lead-in-same k))
   core-passes (joined e j i) k =
       none-left (coreLines c v) (planLines 2 planLimit (commands c) w)
       (none-left (front c v w) (unsettledLine 1 c v ∷ unsettledLine 2 c w ∷ []) (first-as-call e))
 
   module _ {r : Loops} {after : List ℕ} (d : Looped c v w area (toldLoops r) after) where
-    pub loops-joined : {l : ℕ} → r ≡ loops.Joined l → coreVerdict c v ≡ loopsVerdict c v w
+    pub loops-joined : {l n : ℕ} → r ≡ loops.Joined l n → coreVerdict c v ≡ loopsVerdict c v w
     loops-joined e =
         ap (λ o. orElse o (some (length (coreForm c v)))) (core-passes d (ap toldLoops e))
         ∙ sym (ap (λ s. recount (toldLoops s) (length (coreForm c v))) e)
         ∙ recounted d
 
-    pub loops-apart : r ≡ loops.Apart → given none ≡ loopsVerdict c v w
+    pub loops-apart : {n : ℕ} → r ≡ loops.Apart n → given none ≡ loopsVerdict c v w
     loops-apart e = sym (ap (λ s. recount (toldLoops s) (length (coreForm c v))) e) ∙ recounted d
 
     pub loops-refused : {f : Refusal} → r ≡ loops.Refused f → refused (lineOf f) ≡ loopsVerdict c v w

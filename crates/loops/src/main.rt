@@ -66,8 +66,11 @@ fn decide(catalogue: &[u8], v: &[u8], w: &[u8]) -> Verdict
 {
     let mut area = lead_in_area();
     match busplan::loops(catalogue, v, w, &mut area) {
-        Loops::Joined(_) => joined(catalogue, v),
-        Loops::Apart => Verdict::Apart,
+        Loops::Joined {
+            length: _,
+            rounds: _,
+        } => joined(catalogue, v),
+        Loops::Apart { rounds: _ } => Verdict::Apart,
         Loops::Refused(refusal) => Verdict::Refused(refusal),
     }
 }

@@ -49,10 +49,14 @@ toldEquality equality.Yes = given true
 toldEquality equality.No = given false
 toldEquality (equality.Refused r) = refused (lineOf r)
 
--- the length of the lead-in, nothing where the loops are apart, or a refusal
-abbrev pub toldLoops : Loops → Answer (Option ℕ)
-toldLoops (loops.Joined l) = given (some l)
-toldLoops loops.Apart = given none
+-- the length of the lead-in, nothing where the loops are apart; and the number of rounds in either case
+pub record DecidedLoops : Type 0 where
+  pub lead-in : Option ℕ
+  pub rounds : ℕ
+
+abbrev pub toldLoops : Loops → Answer DecidedLoops
+toldLoops (loops.Joined l n) = given (record { lead-in = some l; rounds = n })
+toldLoops (loops.Apart n) = given (record { lead-in = none; rounds = n })
 toldLoops (loops.Refused r) = refused (lineOf r)
 
 -- yes or no, with the lengths of both normal forms

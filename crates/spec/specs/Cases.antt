@@ -35,10 +35,10 @@ pub data Row : Type 0 where
   cored : List ℕ → List ℕ → Row
   -- two equal plans
   equal : List ℕ → List ℕ → Row
-  -- two joined loops v and w, a lead-in u that may be written, and the normal form of v·u and of u·w
-  joined : List ℕ → List ℕ → List ℕ → List ℕ → Row
-  -- two loops that are apart
-  apart : List ℕ → List ℕ → Row
+  -- two joined loops v and w, a lead-in u that may be written, the normal form of v·u and of u·w, and the rounds
+  joined : List ℕ → List ℕ → List ℕ → List ℕ → ℕ → Row
+  -- two loops that are apart, and the rounds
+  apart : List ℕ → List ℕ → ℕ → Row
 
 -- what a call answers and leaves in its area
 abbrev pub Writes : Answer ℕ → List ℕ → List ℕ → List ℕ → Type 0
@@ -57,20 +57,23 @@ Yields (pairs v z ns) =
     × (pairedNumbers K v v v ≡ ns ++ drop (length ns) v)
 Yields (cored v z) = Writes (coreAnswer K v v) (coreArea K v v) v z
 Yields (equal v w) = equalAnswer K v w ≡ given true
-Yields (joined v w u z) =
+Yields (joined v w u z n) =
     NoneHolds (loopsLines K v w (room v w))
-    × Looped K v w (room v w) (given (some (length u))) (u ++ drop (length u) (room v w))
+    × Looped K v w (room v w) (given (record { lead-in = some (length u); rounds = n }))
+    (u ++ drop (length u) (room v w))
     × (checkAnswer K v w u (v ++ u) (u ++ w) ≡ given (record { yes = true; vu = length z; uw = length z }))
     × (checkArea0 K v w u (v ++ u) (u ++ w) ≡ z ++ drop (length z) (v ++ u))
     × (checkArea1 K v w u (v ++ u) (u ++ w) ≡ z ++ drop (length z) (u ++ w))
-Yields (apart v w) =
-    NoneHolds (loopsLines K v w (room v w)) × Looped K v w (room v w) (given none) (room v w)
+Yields (apart v w n) =
+    NoneHolds (loopsLines K v w (room v w))
+    × Looped K v w (room v w) (given (record { lead-in = none; rounds = n })) (room v w)
 
 abbrev pub Every : List Row → Type 0
 Every [] = Unit {0}
 Every (r ∷ rs) = Yields r × Every rs
 
--- cases 1 to 7 and 9 to 11, the slip about the core that tests only the letters written first and last, and pairs
+-- cases 1 to 7 and 9 to 11, the slip about the core that tests only the letters written first and last, rounds, and
+-- pairs
 abbrev pub starred : List Row
 starred =
     normal [] []
@@ -82,10 +85,13 @@ starred =
     ∷ normal (4 ∷ 2 ∷ 1 ∷ []) (2 ∷ 1 ∷ 4 ∷ [])
     ∷ normal (2 ∷ 4 ∷ 3 ∷ 1 ∷ undo3 ∷ []) (2 ∷ 1 ∷ 4 ∷ [])
     ∷ equal (2 ∷ 4 ∷ 3 ∷ 1 ∷ undo3 ∷ []) (4 ∷ 2 ∷ 1 ∷ [])
-    ∷ joined (1 ∷ 2 ∷ []) (2 ∷ 1 ∷ []) (1 ∷ []) (1 ∷ 2 ∷ 1 ∷ [])
-    ∷ joined (1 ∷ 2 ∷ []) (2 ∷ 1 ∷ []) (undo2 ∷ []) (1 ∷ [])
-    ∷ apart (1 ∷ []) (undo1 ∷ [])
-    ∷ apart (1 ∷ 2 ∷ 1 ∷ undo2 ∷ []) (1 ∷ 1 ∷ [])
+    ∷ joined (1 ∷ 2 ∷ []) (2 ∷ 1 ∷ []) (1 ∷ []) (1 ∷ 2 ∷ 1 ∷ []) 1
+    ∷ joined (1 ∷ 2 ∷ []) (2 ∷ 1 ∷ []) (undo2 ∷ []) (1 ∷ []) 1
+    ∷ apart (1 ∷ []) (undo1 ∷ []) 0
+    ∷ apart (1 ∷ 2 ∷ 1 ∷ undo2 ∷ []) (1 ∷ 1 ∷ []) 1
+    ∷ joined (1 ∷ 2 ∷ 3 ∷ 4 ∷ []) (1 ∷ 2 ∷ 3 ∷ 4 ∷ []) [] (1 ∷ 2 ∷ 3 ∷ 4 ∷ []) 3
+    ∷ apart (1 ∷ []) (1 ∷ 2 ∷ 3 ∷ 4 ∷ []) 3
+    ∷ joined [] [] [] [] 0
     ∷ cored (3 ∷ 1 ∷ 2 ∷ undo3 ∷ undo1 ∷ []) (2 ∷ [])
     ∷ pairs [] [] []
     ∷ pairs (0 ∷ 1 ∷ 3 ∷ 0 ∷ undo1 ∷ []) (3 ∷ []) (1 ∷ 4 ∷ [])

@@ -1,5 +1,6 @@
 -- What the console gets for each answer: a length, or yes (1) or no (0); for loops the lead-in's length plus 1, or 0
--- for apart; and minus the refusal number. Of a fault it gets that number too, or 0 where there is none.
+-- for apart, without the rounds; and minus the refusal number. Of a fault it gets that number too, or 0 where there is
+-- none.
 use Prim.Native.Nat.{ℕ, suc}
 use mathlib.Core.Path.{_≡_}
 use mathlib.Core.Bool.{Bool}
@@ -7,7 +8,7 @@ use mathlib.Core.List.{List}
 use mathlib.Core.Option.{Option, none, some}
 use lib.IntN.{ℤ, pos, negℤ}
 use Rattle.spec.specs.Table.{Line, Answer, refused, given}
-use Rattle.spec.specs.Answers.{yesNo, CheckedLeadIn}
+use Rattle.spec.specs.Answers.{yesNo, DecidedLoops, CheckedLeadIn}
 use Rattle.spec.specs.Loops.{Looped}
 
 abbrev pub lineCode : Line → ℤ
@@ -27,8 +28,8 @@ lengthCode = code (λ l. l)
 abbrev pub equalCode : Answer Bool → ℤ
 equalCode = code yesNo
 
-abbrev pub loopsCode : Answer (Option ℕ) → ℤ
-loopsCode = code leadInCode
+abbrev pub loopsCode : Answer DecidedLoops → ℤ
+loopsCode = code (λ d. leadInCode (d .lead-in))
 
 abbrev pub checkCode : Answer CheckedLeadIn → ℤ
 checkCode = code (λ k. yesNo (k .yes))
@@ -39,6 +40,6 @@ faultCode (some l) = lineCode l
 
 -- the number and the final area of the loops call, whose lead-in is left free
 pub record LoopedCode (c v w area : List ℕ) (r : ℤ) (after : List ℕ) : Type 0 where
-  pub answer : Answer (Option ℕ)
+  pub answer : Answer DecidedLoops
   pub looped : Looped c v w area answer after
   pub number : r ≡ loopsCode answer

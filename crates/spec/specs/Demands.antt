@@ -1,28 +1,30 @@
 -- What was bought: the demands, as statements without proofs. The contract of each call says that the call, on any
 -- bytes, answers what its definition says (Calls, Loops) and leaves its areas as its definition says; here stands what
--- that is worth, over steps (Step), their order (Order), pairs (Core) and lead-ins (Join) alone. The crate spec_laws
--- proves each demand as one value (DemandsMet), the crate loops_framing that of the program's input.
+-- that is worth, over steps (Step), their order (Order), pairs (Core), lead-ins (Join) and rounds (Rounds) alone. The
+-- crate spec_laws proves each demand as one value (DemandsMet), the crate loops_framing that of the program's input.
 use Prim.Native.Nat.{ℕ, _+_, _*_, _≤_, _<_}
 use mathlib.Core.Path.{_≡_}
 use mathlib.Core.Bool.{Bool, true}
-use mathlib.Core.List.{List, [], _++_}
+use mathlib.Core.List.{List, [], _++_, List·Memᴰ}
 use mathlib.Core.Option.{Option, none, some}
 use mathlib.Core.Logic.{_↔_, _⊎_}
 use lib.ListN.{length, take, drop, getD}
+use Rattle.theory_words.specs.All.{All}
 use Rattle.spec.specs.Table.{Line, line, Answer, refused, given, firstLine, orElse, orKept, NoneHolds, FirstHolds}
 use Rattle.spec.specs.Catalogue.{commands, countLine, catalogueLines}
 use Rattle.spec.specs.Plan.{planLines}
 use Rattle.spec.specs.Conflict.{conflict, Conflicting}
-use Rattle.spec.specs.Byte.{undone, undoOf}
+use Rattle.spec.specs.Byte.{commandOf, undone, undoOf}
 use Rattle.spec.specs.Step.{Command, Equal}
 use Rattle.spec.specs.Order.{Earlier}
 use Rattle.spec.specs.Join.{Joins}
 use Rattle.spec.specs.Core.{Swaps, Least, CyclicallyReduced, TakenOff}
-use Rattle.spec.specs.Answers.{yesNo, FormCounts, CheckedLeadIn}
+use Rattle.spec.specs.Answers.{yesNo, FormCounts, DecidedLoops, CheckedLeadIn}
 use Rattle.spec.specs.Pairs.{pairNumbers, Accounts}
 use Rattle.spec.specs.Calls.{planLimit, normalFormAnswer, normalFormArea, coreForm, coreAnswer, coreArea}
 use Rattle.spec.specs.Calls.{catalogueAnswer, catalogueTable, normalFormLines, equalLines, equalAnswer}
 use Rattle.spec.specs.Calls.{pairedLines, pairedAnswer, pairedArea, pairedNumbers}
+use Rattle.spec.specs.Rounds.{IsPart, Settles, Needs}
 use Rattle.spec.specs.Loops.{loopsLines, Looped, LeadIn, checkLines, checkAnswer}
 use Rattle.spec.specs.Fault.{faultLines, faultAnswer}
 use Rattle.spec.specs.Notation.{Items, Text, Wrong, planOf, sizeOf, nestingOf}
@@ -101,16 +103,43 @@ pub record Exact (c v w : List ℕ) (o : Option ℕ) : Type 0 where
 -- normal form, has at most N(n + m) letters and fills the first L bytes of the area, which past them is as it was.
 -- Apart leaves all of it as it was. A lead-in check that is not refused says yes exactly if u joins v to w.
 pub record Demand3 : Type 0 where
-  pub refused-exactly : {c v w area after : List ℕ} {a : Answer (Option ℕ)} → Looped c v w area a after → (l : Line)
+  pub refused-exactly : {c v w area after : List ℕ} {a : Answer DecidedLoops} → Looped c v w area a after → (l : Line)
       → (a ≡ refused l) ↔ FirstHolds l (loopsLines c v w area)
   pub refused-untouched : {c v w area after : List ℕ} {l : Line} → Looped c v w area (refused l) after → after ≡ area
   pub settled : (c v w area : List ℕ) (p i : ℕ) → ¬ FirstHolds (line 10 p i) (loopsLines c v w area)
-  pub loops : {c v w area after : List ℕ} {o : Option ℕ} → Looped c v w area (given o) after → Exact c v w o
-  pub lead-in : {c v w area after : List ℕ} {l : ℕ} → Looped c v w area (given (some l)) after
-      → (length (take l after) ≡ l) × LeadIn c v w (take l after) × (drop l after ≡ drop l area)
-  pub apart-untouched : {c v w area after : List ℕ} → Looped c v w area (given none) after → after ≡ area
+  pub loops : {c v w area after : List ℕ} {d : DecidedLoops} → Looped c v w area (given d) after
+      → Exact c v w (d .lead-in)
+  pub lead-in : {c v w area after : List ℕ} {d : DecidedLoops} {l : ℕ} → Looped c v w area (given d) after
+      → d .lead-in ≡ some l → (length (take l after) ≡ l) × LeadIn c v w (take l after) × (drop l after ≡ drop l area)
+  pub apart-untouched : {c v w area after : List ℕ} {d : DecidedLoops} → Looped c v w area (given d) after
+      → d .lead-in ≡ none → after ≡ area
   pub check : (c v w u area0 area1 : List ℕ) (k : CheckedLeadIn) → checkAnswer c v w u area0 area1 ≡ given k
       → (k .yes ≡ true) ↔ Joins c v w u
+
+-- the list ks holds every command of x
+abbrev pub Holds : List ℕ → List ℕ → Type 0
+Holds ks x = All (λ a. List·Memᴰ (commandOf a) ks) x
+
+-- n is the largest number of rounds that a part of x or of y needs; 0 where both are empty
+pub record Most (c x y : List ℕ) (n : ℕ) : Type 0 where
+  pub none-more : (k : ℕ) → Needs c x k ⊎ Needs c y k → k ≤ n
+  pub some-needs : Needs c x n ⊎ Needs c y n ⊎ ((x ≡ []) × (y ≡ []) × (n ≡ 0))
+
+-- How many rounds. A part of a word of commands needs a number of rounds, and no other. That is smaller than the length
+-- of every list that holds its commands: a part with s commands never needs more than s - 1 rounds. The number told
+-- with joined and with apart alike is the largest that a part of either core needs, and 0 where both cores are empty;
+-- so it is 0 or smaller than the number of commands that occur in one of the cores.
+pub record RoundsDemand : Type 0 where
+  pub ends : {c x y : List ℕ} {m : ℕ} → All (Command c) x → IsPart c x m y → (n : ℕ) × Settles c m n y
+  pub one-number : {c x y : List ℕ} {m n k : ℕ} → All (Command c) x → IsPart c x m y → Settles c m n y
+      → Settles c m k y → n ≡ k
+  pub few : {c x y : List ℕ} {m n : ℕ} → All (Command c) x → IsPart c x m y → Settles c m n y → (ks : List ℕ)
+      → Holds ks y → n < length ks
+  pub told : {c v w area after : List ℕ} {d : DecidedLoops} → Looped c v w area (given d) after
+      → Most c (coreForm c v) (coreForm c w) (d .rounds)
+  pub told-few : {c v w area after : List ℕ} {d : DecidedLoops} → Looped c v w area (given d) after
+      → (ks js : List ℕ) → Holds ks (coreForm c v) → Holds js (coreForm c w)
+      → (d .rounds ≡ 0) ⊎ (d .rounds < length ks) ⊎ (d .rounds < length js)
 
 -- the fault of catalogue c and plans v, w, u, where there is one, is what a call with the lines ls is refused for; where
 -- there is none, the call is refused for an area, by line 9, or not at all

@@ -13,6 +13,7 @@ pub mod Letters
 pub mod Answers
 pub mod Pairs
 pub mod Calls
+pub mod Rounds
 pub mod Loops
 pub mod Fault
 pub mod Notation

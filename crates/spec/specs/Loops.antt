@@ -17,7 +17,8 @@ use Rattle.spec.specs.Plan.{planLines}
 use Rattle.spec.specs.Letters.{letters, alphabet, normalForm}
 use Rattle.spec.specs.Join.{Joins}
 use Rattle.spec.specs.Calls.{planLimit, areaLine, areaAfter}
-use Rattle.spec.specs.Answers.{CheckedLeadIn}
+use Rattle.spec.specs.Rounds.{loopsRounds}
+use Rattle.spec.specs.Answers.{DecidedLoops, CheckedLeadIn}
 
 -- Loops
 
@@ -53,14 +54,15 @@ pub record LeadIn (c v w u : List ℕ) : Type 0 where
   pub joins : Joins c v w u
   pub short : length u ≤ leadInRoom c v w
 
--- the answer and the final area of the loops call
-pub data Looped (c v w area : List ℕ) : Answer (Option ℕ) → List ℕ → Type 0 where
+-- the answer and the final area of the loops call; joined and apart alike tell the rounds
+pub data Looped (c v w area : List ℕ) : Answer DecidedLoops → List ℕ → Type 0 where
   refuses : {l : Line} → firstLine (loopsLines c v w area) ≡ some l → Looped c v w area (refused l) area
   apart : firstLine (loopsLines c v w area) ≡ none → joined? (alphabet c) (letters v) (letters w) ≡ false
-      → Looped c v w area (given none) area
+      → Looped c v w area (given (record { lead-in = none; rounds = loopsRounds c v w })) area
   joined : {u : List ℕ} → firstLine (loopsLines c v w area) ≡ none
       → joined? (alphabet c) (letters v) (letters w) ≡ true → LeadIn c v w u
-      → Looped c v w area (given (some (length u))) (u ++ drop (length u) area)
+      → Looped c v w area (given (record { lead-in = some (length u); rounds = loopsRounds c v w }))
+      (u ++ drop (length u) area)
 
 -- Lead-in check
 

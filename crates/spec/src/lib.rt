@@ -53,10 +53,11 @@ pub enum Equality {
     Refused(Refusal),
 }
 
-// Two loops: joined, by a lead-in of this length that stands at the start of the area, or apart.
+// Two loops: joined, by a lead-in of this length that stands at the start of the area, or apart; and the largest number
+// of rounds that settling a part of either core takes.
 pub enum Loops {
-    Joined(usize),
-    Apart,
+    Joined { length: usize, rounds: usize },
+    Apart { rounds: usize },
     Refused(Refusal),
 }
 

@@ -17,7 +17,8 @@ use Rattle.theory_conjugacy.specs.Core.{without-last, between, pair-step, pair,
 use Rattle.theory_conjugacy.specs.Part.{insert-step, insert, relabel-step, relabel, merge-step}
 use Rattle.theory_conjugacy.specs.Part.{merge, merge-row, merge-all, labels, label, apexes, share, part}
 use Rattle.theory_conjugacy.specs.Part as Part
-use Rattle.theory_conjugacy.specs.Settle.{hit, put, split, settled-step, settled, ring}
+use Rattle.theory_conjugacy.specs.Settle.{hit, put, split, settled-step, settled, ring, counted-step, counted}
+use Rattle.theory_conjugacy.specs.Rounds.{part-rounds, most-rounds, core-rounds}
 use Rattle.theory_conjugacy.specs.Rotation.{search-step, search, rotation}
 use Rattle.theory_conjugacy.specs.Decision.{found?, settled-ring, part-ring, rotated?, parts-joined?}
 use Rattle.theory_conjugacy.specs.Decision.{cores-joined?, joined?}
@@ -31,6 +32,7 @@ use Rattle.spec.specs.Letters.{letters, alphabet, normalForm}
 use Rattle.spec.specs.Pairs.{partner, readByte, readFrom, reading}
 use Rattle.spec.specs.Calls.{coreForm}
 use Rattle.spec.specs.Join.{Joins}
+use Rattle.spec.specs.Rounds.{loopsRounds}
 use Rattle.spec.specs.Loops.{isEmpty, unsettled, leadInRoom, loopsLines, apart, joined}
 use Rattle.spec.specs.Loops.{checkAnswer, checkArea0, checkArea1}
 use Rattle.spec_laws.specs.DemandsMet.{demand-3}
@@ -42,32 +44,34 @@ _&_ : {A B : Type 0} → A → B → A × B
 a & b = (a, b)
 
 -- a row of two joined loops, from what is computed: the check says that u is a lead-in
-joined-row : (v w u z : List ℕ) → firstLine (loopsLines K v w (room v w)) ≡ none
-    → joined? (alphabet K) (letters v) (letters w) ≡ true → normalForm K u ≡ u → length u ≤ leadInRoom K v w
+joined-row : (v w u z : List ℕ) (r : ℕ) → firstLine (loopsLines K v w (room v w)) ≡ none
+    → joined? (alphabet K) (letters v) (letters w) ≡ true → loopsRounds K v w ≡ r → normalForm K u ≡ u
+    → length u ≤ leadInRoom K v w
     → checkAnswer K v w u (v ++ u) (u ++ w) ≡ given (record { yes = true; vu = length z; uw = length z })
     → checkArea0 K v w u (v ++ u) (u ++ w) ≡ z ++ drop (length z) (v ++ u)
     → checkArea1 K v w u (v ++ u) (u ++ w) ≡ z ++ drop (length z) (u ++ w)
-    → Yields (row.joined v w u z)
-joined-row v w u z e d n s k a0 a1 =
+    → Yields (row.joined v w u z r)
+joined-row v w u z r e d q n s k a0 a1 =
     let j : Joins K v w u = demand-3 .check K v w u (v ++ u) (u ++ w) _ k .0 refl in (
       none-holds (loopsLines K v w (room v w)) .0 e,
-      joined e d (record { normal = n; joins = j; short = s }),
+      rw (← q) (joined e d (record { normal = n; joins = j; short = s })),
       k,
       a0,
       a1,
     )
 
-apart-row : (v w : List ℕ) → firstLine (loopsLines K v w (room v w)) ≡ none
-    → joined? (alphabet K) (letters v) (letters w) ≡ false → Yields (row.apart v w)
-apart-row v w e d = (none-holds (loopsLines K v w (room v w)) .0 e, apart e d)
+apart-row : (v w : List ℕ) (r : ℕ) → firstLine (loopsLines K v w (room v w)) ≡ none
+    → joined? (alphabet K) (letters v) (letters w) ≡ false → loopsRounds K v w ≡ r → Yields (row.apart v w r)
+apart-row v w r e d q = (none-holds (loopsLines K v w (room v w)) .0 e, rw (← q) (apart e d))
 
 pub starred-hold : StarredCases
 unfolding firstOf isEmpty unsettled without-step without act-step act reduce meets firsts least-step least rest
     lex-step lex nf ends follow stands conflict isCommand passes undone letters normalForm ℕ-discrete
     Core.undone without-last between pair-step pair peels-step peels core coreForm insert-step insert
     relabel-step relabel merge-step Part.commands merge merge-row merge-all labels label apexes share part hit
-    put split settled-step settled ring agree-step agree search-step search rotation found? settled-ring
-    part-ring rotated? parts-joined? cores-joined? joined? keepIf filter partner readByte readFrom reading
+    put split settled-step settled ring counted-step counted part-rounds most-rounds core-rounds loopsRounds
+    agree-step agree search-step search rotation found? settled-ring part-ring rotated? parts-joined? cores-joined?
+    joined? keepIf filter partner readByte readFrom reading
 starred-hold =
     (refl, refl)
     & (refl, refl)
@@ -78,10 +82,14 @@ starred-hold =
     & (refl, refl)
     & (refl, refl)
     & refl
-    & joined-row (1 ∷ 2 ∷ []) (2 ∷ 1 ∷ []) (1 ∷ []) (1 ∷ 2 ∷ 1 ∷ []) refl refl refl (omega arith) refl refl refl
-    & joined-row (1 ∷ 2 ∷ []) (2 ∷ 1 ∷ []) (undo2 ∷ []) (1 ∷ []) refl refl refl (omega arith) refl refl refl
-    & apart-row (1 ∷ []) (undo1 ∷ []) refl refl
-    & apart-row (1 ∷ 2 ∷ 1 ∷ undo2 ∷ []) (1 ∷ 1 ∷ []) refl refl
+    & joined-row (1 ∷ 2 ∷ []) (2 ∷ 1 ∷ []) (1 ∷ []) (1 ∷ 2 ∷ 1 ∷ []) 1 refl refl refl refl (omega arith) refl refl refl
+    & joined-row (1 ∷ 2 ∷ []) (2 ∷ 1 ∷ []) (undo2 ∷ []) (1 ∷ []) 1 refl refl refl refl (omega arith) refl refl refl
+    & apart-row (1 ∷ []) (undo1 ∷ []) 0 refl refl refl
+    & apart-row (1 ∷ 2 ∷ 1 ∷ undo2 ∷ []) (1 ∷ 1 ∷ []) 1 refl refl refl
+    & joined-row (1 ∷ 2 ∷ 3 ∷ 4 ∷ []) (1 ∷ 2 ∷ 3 ∷ 4 ∷ []) [] (1 ∷ 2 ∷ 3 ∷ 4 ∷ []) 3 refl refl refl refl (omega arith)
+    refl refl refl
+    & apart-row (1 ∷ []) (1 ∷ 2 ∷ 3 ∷ 4 ∷ []) 3 refl refl refl
+    & joined-row [] [] [] [] 0 refl refl refl refl (omega arith) refl refl refl
     & (refl, refl)
     & (refl, refl, refl)
     & (refl, refl, refl)

@@ -7,7 +7,8 @@ use native.Mathlib.Omega.{arith}
 use native.Mathlib.Nat.{mul-le-mul-left, mul-le-mul-right}
 use lib.ListN.{length}
 use Rattle.spec.specs.Table.{Line, Answer, given, firstLine, orElse}
-use Rattle.spec_laws.specs.TableLaws.{none-left, none-right}
+use Rattle.spec_laws.specs.TableLaws.{none-left, none-right, none-some, some-same}
+use Rattle.spec_laws.specs.SearchLaws.{given-not}
 use Rattle.spec.specs.Catalogue.{commands, catalogueLines}
 use Rattle.spec.specs.Plan.{planLines}
 use Rattle.spec_laws.specs.PlanLaws.{lines-pass}
@@ -16,9 +17,10 @@ use Rattle.spec_laws.specs.NormalFormLaws.{normal-length}
 use Rattle.spec_laws.specs.CoreFormLaws.{core-form-length}
 use Rattle.spec.specs.declared.Written.{Written}
 use Rattle.spec.specs.declared.Written.the-variants.{Length}
-use Rattle.spec.specs.Answers.{toldWritten}
+use Rattle.spec.specs.Answers.{toldWritten, DecidedLoops}
 use Rattle.spec.specs.Calls.{planLimit, areaLine, normalFormLines, normalFormAnswer, coreForm, coreAnswer}
 use Rattle.spec_laws.specs.CallLaws.{answer-given, few-commands}
+use Rattle.spec_laws.specs.LoopLaws.{lead-in-same}
 use Rattle.spec.specs.Loops.{leadInRoom, leadInLimit, unsettledLine, loopsLines, Looped, refuses, apart, joined}
 
 -- a plan z that is written, no longer than v
@@ -51,10 +53,9 @@ room-limit c v w area e =
     let b : n * 2048 ≤ 24 * 2048 = mul-le-mul-right 2048 k in
     omega arith
 
-pub looped-length : {c v w area after : List ℕ} {t : Answer (Option ℕ)} (l : ℕ) → Looped c v w area t after
-    → t ≡ given (some l) → l ≤ leadInLimit
-looped-length l (refuses e) k = absurd (let z : _≡_ {A = ℕ} 0 1 = cc in omega arith)
-looped-length l (apart e d) k = absurd (let z : _≡_ {A = ℕ} 0 1 = cc in omega arith)
-looped-length {c} {v} {w} {area} l (joined {u} e d h) k =
-    let m : length u ≡ l = cc in
-    omega (arith, m, h .short, room-limit c v w area e)
+pub looped-length : {c v w area after : List ℕ} {t : Answer DecidedLoops} (l : ℕ) {n : ℕ} → Looped c v w area t after
+    → t ≡ given (record { lead-in = some l; rounds = n }) → l ≤ leadInLimit
+looped-length l (refuses e) k = absurd (given-not (sym k))
+looped-length l (apart e d) k = absurd (none-some (lead-in-same k))
+looped-length {c} {v} {w} {area} l (joined e d h) k =
+    omega (arith, some-same (lead-in-same k), h .short, room-limit c v w area e)

@@ -12,7 +12,7 @@ use lib.Seq.{take-at, take-append-seam, drop-append-seam}
 use Rattle.theory_words.specs.Alike.{alike?}
 use Rattle.theory_words.specs.AlikeLaws.{alike-exact}
 use Rattle.spec.specs.Table.{Line, line, Answer, refused, given, firstLine, orElse, orKept, NoneHolds, FirstHolds}
-use Rattle.spec_laws.specs.TableLaws.{none-holds, first-holds, none-left, none-right, none-some}
+use Rattle.spec_laws.specs.TableLaws.{none-holds, first-holds, none-left, none-right, none-some, some-same}
 use Rattle.spec_laws.specs.LineLaws.{holds-up-to}
 use Rattle.spec.specs.Catalogue.{commands, catalogueLines}
 use Rattle.spec.specs.Conflict.{conflict}
@@ -27,17 +27,19 @@ use Rattle.spec_laws.specs.CoreFormLaws.{core-of}
 use Rattle.spec_laws.specs.SearchLaws.{given-not}
 use Rattle.spec.specs.Step.{Equal}
 use Rattle.spec.specs.Demands.{Demand1, Demand2, Demand3, Shortest, Exact, IsCore}
-use Rattle.spec.specs.Demands.{CatalogueDemand, PairsDemand, CoreDemand, FaultDemand, ProgramDemand, PlansDemand}
+use Rattle.spec.specs.Demands.{CatalogueDemand, PairsDemand, CoreDemand, RoundsDemand, FaultDemand, ProgramDemand}
+use Rattle.spec.specs.Demands.{PlansDemand}
 use Rattle.spec.specs.Calls.{planLimit, areaLine, areaAfter, normalFormLines, normalFormAnswer, normalFormArea}
 use Rattle.spec.specs.Calls.{catalogueAnswer, catalogueTable, coreForm, coreAnswer, coreArea, equalLines, equalAnswer}
 use Rattle.spec.specs.Calls.{pairedLines, pairedCounts, pairedAnswer, pairedArea, pairedNumbers}
-use Rattle.spec.specs.Answers.{yesNo, FormCounts, CheckedLeadIn}
+use Rattle.spec.specs.Answers.{yesNo, FormCounts, DecidedLoops, CheckedLeadIn}
 use Rattle.spec.specs.Pairs.{reading, pairNumbers, Accounts}
 use Rattle.spec_laws.specs.ReadingLaws.{numbers-length, accounts}
 use Rattle.spec_laws.specs.PairedLaws.{form-few, form-passes, paired-refused, paired-none}
 use Rattle.spec.specs.Loops.{leadInRoom, loopsLines, Looped, refuses, apart, joined, LeadIn}
 use Rattle.spec.specs.Loops.{checkLines, checkResult, checkAnswer}
 use Rattle.spec_laws.specs.UnsettledLaws.{never-ten}
+use Rattle.spec_laws.specs.RoundsLaws.{part-settles, part-number, part-few, rounds-told, rounds-few}
 use Rattle.spec.specs.Fault.{faultLines}
 use Rattle.spec_laws.specs.FaultLaws.{catalogue-explained, form-explained, equal-explained, loops-explained}
 use Rattle.spec_laws.specs.FaultLaws.{check-explained, fault-numbered}
@@ -175,7 +177,7 @@ demand-core = record { core = core-demand }
 
 -- Demand 3
 
-loops-refused : {c v w area after : List ℕ} {a : Answer (Option ℕ)} → Looped c v w area a after → (l : Line)
+loops-refused : {c v w area after : List ℕ} {a : Answer DecidedLoops} → Looped c v w area a after → (l : Line)
     → (a ≡ refused l) ↔ FirstHolds l (loopsLines c v w area)
 loops-refused {c} {v} {w} {area} (refuses {l = k} e) l = (
   λ q. let s : some k ≡ some l = cc in first-holds (loopsLines c v w area) l .0 (e ∙ s),
@@ -198,10 +200,13 @@ loops-settled c v w area p i =
     never-ten c v w (areaLine 0 (leadInRoom c v w) area ∷ []) p i
     (holds-up-to 9 (line 9 0 0) (omega arith, omega arith, omega arith) (ltb (length area) (leadInRoom c v w)), tt)
 
-apart-untouched : {c v w area after : List ℕ} → Looped c v w area (given none) after → after ≡ area
-apart-untouched (apart e d) = refl
+apart-untouched : {c v w area after : List ℕ} {d : DecidedLoops} → Looped c v w area (given d) after
+    → d .lead-in ≡ none → after ≡ area
+apart-untouched (apart e d) q = refl
+apart-untouched (joined e d l) q = absurd (none-some (sym q))
 
-loops-demand : {c v w area after : List ℕ} {o : Option ℕ} → Looped c v w area (given o) after → Exact c v w o
+loops-demand : {c v w area after : List ℕ} {d : DecidedLoops} → Looped c v w area (given d) after
+    → Exact c v w (d .lead-in)
 loops-demand {c} {v} {w} {area} (apart e d) =
     let no : (u : List ℕ) → ¬ Joins c v w u = none-joins c v w (loops-pass c v w area e) d in
     record {
@@ -214,10 +219,12 @@ loops-demand (joined {u = u} e d l) =
       apart = (λ h. absurd (none-some (sym h)), λ h. absurd (h u (l .joins)));
     }
 
-lead-in-demand : {c v w area after : List ℕ} {l : ℕ} → Looped c v w area (given (some l)) after
-    → (length (take l after) ≡ l) × LeadIn c v w (take l after) × (drop l after ≡ drop l area)
-lead-in-demand {area = area} (joined {u = u} e d l) =
-    rw (take-append-seam u (drop (length u) area), drop-append-seam u (drop (length u) area)) (refl, l, refl)
+lead-in-demand : {c v w area after : List ℕ} {d : DecidedLoops} {l : ℕ} → Looped c v w area (given d) after
+    → d .lead-in ≡ some l → (length (take l after) ≡ l) × LeadIn c v w (take l after) × (drop l after ≡ drop l area)
+lead-in-demand (apart e d) q = absurd (none-some q)
+lead-in-demand {area = area} (joined {u = u} e d h) q =
+    rw (← some-same q, take-append-seam u (drop (length u) area), drop-append-seam u (drop (length u) area))
+    (refl, h, refl)
 
 check-demand : (c v w u area0 area1 : List ℕ) (k : CheckedLeadIn) → checkAnswer c v w u area0 area1 ≡ given k
     → (k .yes ≡ true) ↔ Joins c v w u
@@ -257,6 +264,18 @@ demand-3 =
       lead-in = lead-in-demand;
       apart-untouched = apart-untouched;
       check = check-demand;
+    }
+
+-- How many rounds
+
+pub demand-rounds : RoundsDemand
+demand-rounds =
+    record {
+      ends = λ {c} {x} h i. part-settles c x h i;
+      one-number = λ {c} {x} h i s t. part-number c x h i s ∙ sym (part-number c x h i t);
+      few = λ {c} {x} h i s ks f. part-few c x h i s ks f;
+      told = rounds-told;
+      told-few = rounds-few;
     }
 
 -- The fault call

@@ -6,7 +6,10 @@ use mathlib.Core.Option.{Option, none, some}
 use native.Mathlib.Omega.{arith}
 use lib.ListN.{length, drop, length-append}
 use Rattle.spec.specs.Table.{Line, Answer, given, firstLine, orElse}
+use Rattle.spec_laws.specs.TableLaws.{none-some, some-same}
+use Rattle.spec_laws.specs.SearchLaws.{given-not}
 use Rattle.spec_laws.specs.CallLaws.{answer-given}
+use Rattle.spec_laws.specs.LoopLaws.{lead-in-same}
 use Rattle.spec.specs.Letters.{normalForm}
 use Rattle.spec.specs.declared.Written as written
 use Rattle.spec.specs.declared.Written.the-variants.{Length}
@@ -14,7 +17,7 @@ use Rattle.spec.specs.declared.NormalForm.{NormalForm}
 use Rattle.spec.specs.declared.NormalForm.the-variants.{Written}
 use Rattle.spec.specs.declared.Loops.{Loops}
 use Rattle.spec.specs.declared.Loops.the-variants.{Joined}
-use Rattle.spec.specs.Answers.{toldWritten, toldNormalForm, toldLoops, CheckedLeadIn}
+use Rattle.spec.specs.Answers.{toldWritten, toldNormalForm, toldLoops, DecidedLoops, CheckedLeadIn}
 use Rattle.spec.specs.Pairs.{reading, pairNumbers}
 use Rattle.spec_laws.specs.ReadingLaws.{numbers-length}
 use Rattle.spec.specs.Calls.{areaAfter, normalFormLines, coreForm, coreAnswer, coreArea}
@@ -60,16 +63,19 @@ module _ (c v area : List ℕ) {after : List ℕ} {r : written.Written} {l : ℕ
   pub core-fits : (toldWritten r ≡ coreAnswer c v area) × (after ≡ coreArea c v area) → r ≡ Length l → l ≤ length after
   core-fits = written-fits (firstLine (normalFormLines c v area)) (coreForm c v) area
 
-looped-fits : {c v w area after : List ℕ} {t : Answer (Option ℕ)} {l : ℕ} → Looped c v w area t after
-    → t ≡ given (some l) → l ≤ length after
-looped-fits (refuses e) k = absurd (let z : _≡_ {A = ℕ} 0 1 = cc in omega arith)
-looped-fits (apart e d) k = absurd (let z : _≡_ {A = ℕ} 0 1 = cc in omega arith)
-looped-fits {area = area} {l = l} (joined {u} e d h) k =
-    let m : length u ≡ l = cc in
-    omega (arith, m, at-start u (drop (length u) area) (u ++ drop (length u) area) refl)
+looped-fits : {c v w area after : List ℕ} {t : Answer DecidedLoops} {l n : ℕ} → Looped c v w area t after
+    → t ≡ given (record { lead-in = some l; rounds = n }) → l ≤ length after
+looped-fits (refuses e) k = absurd (given-not (sym k))
+looped-fits (apart e d) k = absurd (none-some (lead-in-same k))
+looped-fits {area = area} (joined {u} e d h) k =
+    omega (
+      arith,
+      some-same (lead-in-same k),
+      at-start u (drop (length u) area) (u ++ drop (length u) area) refl,
+    )
 
-pub lead-in-fits : {c v w area after : List ℕ} {r : Loops} {l : ℕ} → Looped c v w area (toldLoops r) after
-    → r ≡ Joined l → l ≤ length after
+pub lead-in-fits : {c v w area after : List ℕ} {r : Loops} {l n : ℕ} → Looped c v w area (toldLoops r) after
+    → r ≡ Joined l n → l ≤ length after
 lead-in-fits h e = looped-fits h (ap toldLoops e)
 
 module _ (c v w u area0 area1 : List ℕ) {after0 after1 : List ℕ} (k : CheckedLeadIn) where

@@ -21,6 +21,8 @@ pub mod CallLaws
 pub mod PairedLaws
 pub mod LoopLaws
 pub mod UnsettledLaws
+pub mod SettlesLaws
+pub mod RoundsLaws
 pub mod FaultLaws
 pub mod VerdictLaws
 pub mod CodeLaws

@@ -1,14 +1,13 @@
 -- Laws of the definitions of the loops call and the lead-in check: what no refusal tells of the plans, and that the
 -- decision is exact over plans of bytes.
 use Prim.Native.Nat.{ℕ, _+_}
-use mathlib.Core.Path.{_≡_}
+use mathlib.Core.Path.{_≡_, ap}
 use mathlib.Core.Bool.{true, false}
 use mathlib.Core.List.{List, [], _∷_, _++_}
-use mathlib.Core.Option.{Option, none, some}
+use mathlib.Core.Option.{Option, none}
 use mathlib.Core.Logic.{_↔_}
-use native.Mathlib.Omega.{arith}
 use lib.ListN.{length}
-use Rattle.spec.specs.Table.{Line, firstLine}
+use Rattle.spec.specs.Table.{Line, given, firstLine}
 use Rattle.spec_laws.specs.TableLaws.{none-left, none-right}
 use Rattle.theory_conjugacy.specs.Decision.{joined?}
 use Rattle.theory_conjugacy.specs.DecisionLaws.{joined-exact, apart-exact}
@@ -19,7 +18,9 @@ use Rattle.spec.specs.Letters.{letters, alphabet}
 use Rattle.spec.specs.Join.{Joins}
 use Rattle.spec_laws.specs.JoinLaws.{joins-words, joins-passing, words-join}
 use Rattle.spec_laws.specs.StepLaws.{kept}
+use Rattle.spec.specs.Answers.{DecidedLoops}
 use Rattle.spec.specs.Calls.{planLimit, areaLine}
+use Rattle.spec_laws.specs.CallLaws.{answer-given}
 use Rattle.spec.specs.Loops.{leadInRoom, unsettledLine, loopsLines, leadInLimit, checkLines}
 
 -- two plans that no line refuses
@@ -46,6 +47,10 @@ pub loops-pass : (c v w area : List ℕ) → firstLine (loopsLines c v w area) �
     → Passing (commands c) v × Passing (commands c) w
 loops-pass c v w area e =
     two-pass c v w (areaLine 0 (leadInRoom c v w) area ∷ unsettledLine 1 c v ∷ unsettledLine 2 c w ∷ []) e
+
+-- answers that are the same tell the same of the lead-in
+pub lead-in-same : {a b : DecidedLoops} → given a ≡ given b → a .lead-in ≡ b .lead-in
+lead-in-same {a} {b} e = ap (λ x. x .lead-in) (answer-given none a b e .1)
 
 -- the decision is exact over plans of bytes
 pub some-joins : (c v w : List ℕ) → Passing (commands c) v × Passing (commands c) w

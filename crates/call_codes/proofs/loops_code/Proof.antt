@@ -19,18 +19,20 @@ told e = sym (ap (λ t. loopsCode (toldLoops t)) e)
 add-result : tie.Need-add-result
 add-result c =
     let s = c .before .before .before in
-    record { fits = omega (arith, s .pre (c .before .answer .given .0 .0) (c .before .answer .given .1)) }
+    let a = c .before .answer .given in
+    record { fits = omega (arith, s .pre (a .0 .0) (a .0 .1 .0) (a .1)) }
 
 cast-result : tie.Need-cast-result
 cast-result c =
     let s = c .before .before .before in
-    record { sfits = omega (arith, s .pre (c .before .answer .given .0 .0) (c .before .answer .given .1)) }
+    let a = c .before .answer .given in
+    record { sfits = omega (arith, s .pre (a .0 .0) (a .0 .1 .0) (a .1)) }
 
 returns : tie.Need-returns
 returns c =
-    let l = c .before .answer .given .0 .0 in
-    let e = c .before .answer .given .1 in
-    toZ-pos w64 (l + 1) (c .before .before .before .pre l e) ∙ ap pos (add-one l) ∙ told e
+    let a = c .before .answer .given in
+    let l = a .0 .0 in
+    toZ-pos w64 (l + 1) (c .before .before .before .pre l (a .0 .1 .0) (a .1)) ∙ ap pos (add-one l) ∙ told (a .1)
 
 returns-2 : tie.Need-returns-2
 returns-2 c = told (c .enum-told .given .1)

@@ -9,10 +9,10 @@ returns : tie.Need-returns
 returns c = sym (ap toldOutcome (c .before .outcome .given .1))
 
 returns-2 : tie.Need-returns-2
-returns-2 c = sym (ap toldOutcome (c .enum-told .given .1))
+returns-2 c = sym (ap toldOutcome (c .before .outcome2 .given .1))
 
 returns-3 : tie.Need-returns-3
-returns-3 c = sym (ap toldOutcome (c .before .outcome2 .given .1))
+returns-3 c = sym (ap toldOutcome (c .before .outcome3 .given .1))
 
 pub verdict-spec : {M : Type 1} → statement M
 verdict-spec =

@@ -1,13 +1,15 @@
 -- The row has room for each word appended, and the word in it is a lead-in. Assumes nothing.
 use Prim.Native.Nat.{ℕ}
+use mathlib.Core.Path.{_≡_, _∙_}
 use mathlib.Core.List.{List}
 use native.Mathlib.Omega.{arith}
 use borrow.Author.Needs.{needs}
-use Rattle.conjugacy_of_cores.specs.Pair.{CoresOutcome, CoresJoined}
+use Rattle.conjugacy_of_cores.specs.Pair.{CoresOutcome, CoresJoined, coresRounds}
 use Rattle.conjugacy_of_parts.proofs.OutcomeLaws.{stops}
 use Rattle.conjugacy_by_cores.specs.Join.{Cores}
 use Rattle.conjugacy_by_cores.specs.JoinLaws.{lead-room, join-coreable, join-short, join-stop, join-word}
 use Rattle.conjugacy_by_cores.specs.JoinLaws.{cores-joined}
+use Rattle.conjugacy_by_cores.specs.CoreAndLeadLaws.{cores-rounds-plans}
 use Rattle.conjugacy_by_cores.proofs.lead_in_word.Statement.{statement}
 use Rattle.conjugacy_by_cores.proofs.lead_in_word.Tie as tie
 
@@ -46,7 +48,8 @@ way j k v w p =
 way-joined : (q : tie.After-way) (k v w : List ℕ) → Asked (after-join-cores q) k v w
     → (let j = after-join-cores q in let s = start j .args in let a = after-append j .append in
     CoresJoined k (s .core1 .now) (s .core2 .now) (a .last .0) (a .result) (j .join-cores .last .1 .1 .1 .1 .0)
-    (q .way .given .0 .0))
+    (q .way .given .0 .0)
+    × (q .way .given .0 .1 .0 ≡ coresRounds k (s .core1 .now) (s .core2 .now)))
 way-joined q k v w p = cores-joined k _ _ _ _ _ (way (after-join-cores q) k v w p) (q .way .given .1)
 
 append-requires : tie.Need-append-requires
@@ -73,7 +76,7 @@ append-undone-requires c κs =
     let j = after-join-cores q in
     let a = after-append j .append in
     let (k, v, w, p, r) = start j .pre in
-    let l = join-short p (start j .args .row .now) r (a .ensures) (way-joined q k v w p) in
+    let l = join-short p (start j .args .row .now) r (a .ensures) (way-joined q k v w p .0) in
     omega (arith, l, j .join-cores .kept .1 .1 .1 .1 .0, a .kept .0)
 
 returns-2 : tie.Need-returns-2
@@ -85,9 +88,12 @@ returns-2 c =
     let row = start j .args .row .now in
     let r = start j .pre .4 in
     λ k v w p.
-    let l = join-short p row r (a .ensures) (way-joined q k v w p) in
-    join-word p (a .ensures) (omega (arith, a .ensures .ends, lead-room p row r)) (way-joined q k v w p)
-    (b .append-undone .ensures) (omega (arith, l, j .join-cores .kept .1 .1 .1 .1 .0, a .kept .0))
+    let (d, m) = way-joined q k v w p in
+    let l = join-short p row r (a .ensures) d in (
+      join-word p (a .ensures) (omega (arith, a .ensures .ends, lead-room p row r)) d (b .append-undone .ensures)
+          (omega (arith, l, j .join-cores .kept .1 .1 .1 .1 .0, a .kept .0)),
+      m ∙ cores-rounds-plans k p,
+    )
 
 pub lead-in-word-spec : {M : Type 1} → statement M
 lead-in-word-spec =

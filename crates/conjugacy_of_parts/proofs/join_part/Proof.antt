@@ -1,12 +1,14 @@
--- Both rings can be found, neither part is unsettled, and the way from ring to ring is the lead-in of the part.
--- Assumes nothing.
+-- Both rings can be found, neither part is unsettled, and the way from ring to ring is the lead-in of the part; the
+-- rounds are those of both. Assumes nothing.
 use Prim.Native.Nat.{ℕ}
 use mathlib.Core.List.{List}
 use borrow.Author.Needs.{needs}
-use Rattle.conjugacy_ring.specs.Ring.{Ringable, Rung}
+use Rattle.conjugacy_settled_parts.specs.PartOf.{PartOf}
+use Rattle.conjugacy_ring.specs.Ring.{Rung}
 use Rattle.conjugacy_of_parts.specs.Parts.{Partable}
-use Rattle.conjugacy_of_parts.specs.PartLaws.{rings-of, rung-count, rung-fits, part-first, part-second}
-use Rattle.conjugacy_of_parts.specs.PartLaws.{first-settled, second-settled, rings-room, way-cycled, part-outcome}
+use Rattle.conjugacy_of_parts.specs.PartLaws.{rings-of, rung-count, rung-fits, part-first, first-fits}
+use Rattle.conjugacy_of_parts.specs.PartLaws.{part-second, second-fits, first-settled, second-settled}
+use Rattle.conjugacy_of_parts.specs.PartLaws.{rings-room, way-cycled, part-outcome}
 use Rattle.conjugacy_of_parts.proofs.join_part.Statement.{statement}
 use Rattle.conjugacy_of_parts.proofs.join_part.Tie as tie
 
@@ -18,8 +20,8 @@ after-ring-of c = c .before .before .before .before .before
 abbrev after-ring-of2 : tie.After-enum-told2 → tie.After-ring-of2
 after-ring-of2 c = c .before .before .before .before .before
 
-abbrev after-second : tie.After-slice-known4 → tie.After-second
-after-second c = c .before .before .before .before .before .before .before
+abbrev after-second : tie.After-larger → tie.After-second
+after-second c = c .before .before .before .before .before
 
 abbrev start-from-ring-of-arg : tie.After-ring-of-arg → tie.Start
 start-from-ring-of-arg c = c .before .before .before .before .before .before .before
@@ -46,11 +48,6 @@ Asked a k =
     Partable k (s .conflicts .now) (s .core1 .now) (s .core2 .now) (s .labels .now) (s .apex) (s .rounds)
     (s .row .now) (s .at)
 
-first-asked : (a : tie.After-ring-of) (k : List ℕ) → Asked a k
-    → (let s = start a .args in Ringable k (s .conflicts .now) (s .core1 .now) (s .labels .now) (s .apex) (s .rounds)
-    (a .before .before .before .before .sheet .result) (s .row .now) (s .at))
-first-asked a k h = part-first h _ (a .before .before .before .before .sheet .ensures)
-
 -- the rings found
 
 one : (p : tie.After-first) (k : List ℕ) → Asked (ring-of-from-first p) k
@@ -59,16 +56,15 @@ one : (p : tie.After-first) (k : List ℕ) → Asked (ring-of-from-first p) k
     (a .ring-of .last .1 .1 .1 .1 .1 .1 .0) (s .at) (p .first .given .0 .0))
 one p k h =
     let a = ring-of-from-first p in
-    rings-of k _ _ _ _ _ _ _ (a .ring-of .ensures k (first-asked a k h)) (p .first .given .1)
+    rings-of k _ _ _ _ _ _ _ (a .ring-of .ensures k (part-first h)) (p .first .given .1)
 
 second-asked : (p : tie.After-first) (k : List ℕ) → Asked (ring-of-from-first p) k
     → (let a = ring-of-from-first p in let s = start a .args in
-    Ringable k (s .conflicts .now) (s .core2 .now) (s .labels .now) (s .apex) (s .rounds)
-    (a .before .before .before .sheet2 .result)
+    PartOf k (s .conflicts .now) (s .core2 .now) (s .labels .now) (s .apex) (s .rounds)
     (a .ring-of .last .1 .1 .1 .1 .1 .1 .0) (p .first .given .0 .0 .cycled))
 second-asked p k h =
     let a = ring-of-from-first p in
-    part-second h (one p k h) (a .ring-of .kept .1 .1 .1 .1 .1 .1 .0) _ (a .before .before .before .sheet2 .ensures)
+    part-second h (one p k h) (a .ring-of .kept .1 .1 .1 .1 .1 .1 .0)
 
 two : (q : tie.After-second) (k : List ℕ) → Asked (ring-of-from-first (first q)) k
     → (let p = first q in let a = ring-of-from-first p in let b = ring-of2-from-second q in let s = start a .args in
@@ -81,19 +77,20 @@ two q k h =
 
 ring-of-requires : tie.Need-ring-of-requires
 ring-of-requires c κs =
-    let s = start-from-ring-of-arg c in
-    (s .pre .0, part-first (s .pre .1) _ (c .before .before .before .sheet .ensures))
+    let (k, h) = start-from-ring-of-arg c .pre in
+    ((k, part-first h), first-fits h (c .before .before .before .sheet .ensures))
 
 returns : tie.Need-returns
 returns c =
     let a = after-ring-of c in
-    λ k h. absurd (first-settled h _ _ _ (a .ring-of .ensures k (first-asked a k h)) (c .enum-told .given .1))
+    λ k h. absurd (first-settled h _ _ _ (a .ring-of .ensures k (part-first h)) (c .enum-told .given .1))
 
 ring-of-requires-2 : tie.Need-ring-of-requires-2
 ring-of-requires-2 c κs =
     let p = c .before .before .before in
-    let (k, h) = start (ring-of-from-first p) .pre in
-    (k, second-asked p k h)
+    let a = ring-of-from-first p in
+    let (k, h) = start a .pre in
+    ((k, second-asked p k h), second-fits h (a .before .before .before .sheet2 .ensures))
 
 returns-2 : tie.Need-returns-2
 returns-2 c =
@@ -128,7 +125,7 @@ slice-aggregate-join-rings-2 c =
 
 join-rings-requires : tie.Need-join-rings-requires
 join-rings-requires c κs =
-    let q = c .before .before .before .before in
+    let q = after-second c in
     let a = ring-of-from-first (first q) in
     let (k, h) = start a .pre in
     rings-room h (one (first q) k h) (a .ring-of .kept .1 .1 .1 .1 .1 .1 .0) (two q k h)
@@ -136,14 +133,16 @@ join-rings-requires c κs =
 
 returns-3 : tie.Need-returns-3
 returns-3 c =
-    let q = after-second c in
-    let j = c .before .before .join-rings in
+    let j = c .before .before in
+    let l = j .before in
+    let q = after-second l in
     let m = ring-of-from-first (first q) .ring-of .kept .1 .1 .1 .1 .1 .1 .0 in
     let n = ring-of2-from-second q .ring-of2 .kept .1 .1 .1 .1 .1 .1 .0 in
     λ k h.
     let f = one (first q) k h in
     let g = two q k h in
-    part-outcome h f m g n (j .last .1 .1 .0) (j .result) (j .ensures k _ (way-cycled h f m g n))
+    part-outcome h f m g n (j .join-rings .last .1 .1 .0) (l .larger .ensures) (j .join-rings .result)
+    (j .join-rings .ensures k _ (way-cycled h f m g n))
 
 pub join-part-spec : {M : Type 1} → statement M
 join-part-spec =
@@ -161,6 +160,7 @@ join-part-spec =
     slice-aggregate-join-rings
     array-share-prefix-other
     slice-aggregate-join-rings-2
+    (λ c κs. search needs)
     join-rings-requires
     (λ c. search needs)
     returns-3)

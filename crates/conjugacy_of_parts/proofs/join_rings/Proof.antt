@@ -1,7 +1,7 @@
 -- The search tells where the rings agree, there is room for the ring up to there, undone, behind the letters cycled,
 -- and both undone are the way. Assumes nothing.
 use Prim.Native.Nat.{ℕ}
-use mathlib.Core.Path.{_≡_}
+use mathlib.Core.Path.{_≡_, refl}
 use mathlib.Core.List.{List, []}
 use mathlib.Core.Option.{some}
 use native.Mathlib.Omega.{arith}
@@ -38,7 +38,7 @@ place : (q : tie.After-found) (k : List ℕ) → rotation (alphabet k) (ring q) 
 place q k = start-found k (ring q) (other q) (q .before .before .rotation .ensures k) (q .found .given .1)
 
 returns : tie.Need-returns
-returns c = λ k z t. nowhere-apart k _ _ (c .before .before .rotation .ensures k) (c .enum-told .given .1)
+returns c = λ k z t. (nowhere-apart k _ _ (c .before .before .rotation .ensures k) (c .enum-told .given .1), refl)
 
 slice-aggregate-append-undone : tie.Need-slice-aggregate-append-undone
 slice-aggregate-append-undone c =
@@ -70,8 +70,10 @@ returns-2 c =
     let a = after-append-undone c .append-undone .ensures in
     let b = c .before .before .undo-between .ensures in
     let s = start q .pre in
-    λ k z t.
-    rings-joined k (ring q) (other q) (place q k) a b t (s .ordered) (start-end k (ring q) (other q) (place q k) s a)
+    λ k z t. (
+      rings-joined k (ring q) (other q) (place q k) a b t (s .ordered) (start-end k (ring q) (other q) (place q k) s a),
+      refl,
+    )
 
 pub join-rings-spec : {M : Type 1} → statement M
 join-rings-spec =

@@ -43,6 +43,11 @@ split-requires c κs =
     let g = start l .pre in
     (g .0, rounds-splittable (l .loop .inv) (g .1))
 
+sub-count : tie.Need-sub-count Inv-loop μ-loop
+sub-count c =
+    let s = after-split-from-then1 c in
+    omega (arith, s .before .before .before .before .loop .inv .fewer)
+
 returns : tie.Need-returns Inv-loop μ-loop
 returns c =
     let s = after-split-from-then1 c in
@@ -88,6 +93,7 @@ settle-spec =
     μ-loop
     loop-holds
     split-requires
+    sub-count
     (λ c. search needs) (λ c. search needs) (λ c. search needs) (λ c. search needs)
     returns
     (λ c. search needs) (λ c. search needs) (λ c. search needs) (λ c. search needs)

@@ -10,7 +10,7 @@ use Rattle.busplan.proofs.console.busplan_loops.Statement.{statement}
 use Rattle.busplan.proofs.console.busplan_loops.Tie as tie
 
 loops-code-requires : tie.Need-loops-code-requires
-loops-code-requires c κs = λ l e.
+loops-code-requires c κs = λ l n e.
     omega (arith, looped-length l (c .before .before .loops .ensures) (ap toldLoops e))
 
 returns : tie.Need-returns

@@ -1,0 +1,98 @@
+-- The rounds of a core: with its flags and labels its parts can be counted, and the number is that of all of them.
+use Prim.Native.Nat.{ℕ, _+_, _*_, _≤_, max}
+use native.Mathlib.Omega.{arith}
+use native.Mathlib.Nat.{mul-add}
+use mathlib.Core.Path.{_≡_, _∙_, ap, subst}
+use mathlib.Core.List.{List}
+use lib.ListN.{length}
+use Rattle.spec.specs.Letters.{alphabet}
+use Rattle.theory_conjugacy.specs.Part.{commands, labels, label}
+use Rattle.theory_conjugacy.specs.Rounds.{most-rounds, core-rounds}
+use Rattle.conjugacy_commands.specs.Flags.{Flags}
+use Rattle.conjugacy_labels.specs.Labels.{LabelsOf}
+use Rattle.conjugacy_rounds.specs.Apexes.{apexesFrom}
+use Rattle.conjugacy_rounds.specs.ApexesLaws.{apexes-from}
+use Rattle.conjugacy_rounds.specs.Counting.{CoreOf, Counts}
+use Rattle.conjugacy_of_parts.specs.Parts.{bothRounds}
+use Rattle.conjugacy_of_cores.specs.Pair.{Flagged, Coreable, coresRounds}
+
+-- room for both is room for either
+
+first-room : (n l m at r : ℕ) → at + n * (l + m) ≤ r → at + n * l ≤ r
+first-room n l m at r h = omega (arith, mul-add n l m)
+
+second-room : (n l m at r : ℕ) → at + n * (l + m) ≤ r → at + n * m ≤ r
+second-room n l m at r h = omega (arith, mul-add n l m)
+
+-- where the same commands occur
+
+module _ {c : List ℕ} {conflicts : List (List ℕ)} {x y fs labels : List ℕ} {rounds : ℕ}
+    (h : Flagged c conflicts x y fs labels rounds) {row : List ℕ} {at n : ℕ} (e : length row ≡ n)
+    (r : at + rounds * (length x + length y) ≤ n) where
+  pub flagged-first : CoreOf c conflicts x fs labels rounds row at
+  flagged-first = record {
+    core = h .two .first;
+    flags = h .flags;
+    enough = h .enough;
+    room = omega (arith, first-room rounds (length x) (length y) at n r);
+  }
+
+  pub flagged-second : CoreOf c conflicts y fs labels rounds row at
+  flagged-second = record {
+    core = h .two .second;
+    flags = subst (λ (ks : List ℕ). Flags ks fs) (h .two .same) (h .flags);
+    enough = h .enough;
+    room = omega (arith, second-room rounds (length x) (length y) at n r);
+  }
+
+pub both-counted : (c x y ms : List ℕ) {row row′ row″ : List ℕ} {at n m : ℕ} → Counts c x ms 0 row row′ at n
+    → Counts c y ms n row′ row″ at m → m ≡ bothRounds c ms x y
+both-counted c x y ms a b = omega (arith, a .count, b .count)
+
+-- whole cores
+
+module _ {c : List ℕ} {conflicts : List (List ℕ)} {x y : List ℕ} {rounds : ℕ} {row : List ℕ} {at : ℕ}
+    (h : Coreable c conflicts x y rounds row at) {fs names : List ℕ} where
+  pub core-first : Flags (commands (alphabet c) x) fs
+      → LabelsOf (labels (alphabet c) (commands (alphabet c) x)) names → CoreOf c conflicts x fs names rounds row at
+  unfolding label
+  core-first f l = record {
+    core = record { cyclic = h .first; labelled = l };
+    flags = f;
+    enough = h .enough;
+    room = first-room rounds (length x) (length y) at (length row) (h .room);
+  }
+
+  pub core-second : Flags (commands (alphabet c) y) fs
+      → LabelsOf (labels (alphabet c) (commands (alphabet c) y)) names
+      → {row′ : List ℕ} → length row′ ≡ length row → CoreOf c conflicts y fs names rounds row′ at
+  unfolding label
+  core-second f l e = record {
+    core = record { cyclic = h .second; labelled = l };
+    flags = f;
+    enough = h .enough;
+    room = omega (arith, second-room rounds (length x) (length y) at (length row) (h .room));
+  }
+
+-- the apexes from the first command on are all
+core-counted : {c : List ℕ} {conflicts : List (List ℕ)} {x fs names : List ℕ} {rounds : ℕ} {row row′ : List ℕ}
+    {at most n : ℕ} → CoreOf c conflicts x fs names rounds row at
+    → Counts c x (apexesFrom fs names 24 0) most row row′ at n → n ≡ max most (core-rounds (alphabet c) x)
+unfolding core-rounds
+core-counted {c} {x = x} {most = most} k t =
+    t .count ∙ ap (λ (ms : List ℕ). max most (most-rounds (alphabet c) ms x))
+    (apexes-from c x (k .flags) (k .core .labelled))
+
+-- one core for both, where they are the same
+pub same-counted : {c : List ℕ} {conflicts : List (List ℕ)} {x y fs names : List ℕ} {rounds : ℕ} {row row′ : List ℕ}
+    {at n : ℕ} → CoreOf c conflicts x fs names rounds row at
+    → Counts c x (apexesFrom fs names 24 0) 0 row row′ at n → x ≡ y → n ≡ coresRounds c x y
+same-counted {c} k t e = omega (arith, core-counted k t, ap (core-rounds (alphabet c)) e)
+
+-- one after the other
+pub cores-counted : {c : List ℕ} {conflicts : List (List ℕ)} {x y fs gs names others : List ℕ} {rounds : ℕ}
+    {row row′ row″ : List ℕ} {at n m : ℕ}
+    → CoreOf c conflicts x fs names rounds row at → Counts c x (apexesFrom fs names 24 0) 0 row row′ at n
+    → CoreOf c conflicts y gs others rounds row′ at → Counts c y (apexesFrom gs others 24 0) n row′ row″ at m
+    → m ≡ coresRounds c x y
+cores-counted k t l u = omega (arith, core-counted k t, core-counted l u)

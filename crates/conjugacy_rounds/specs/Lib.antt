@@ -1,0 +1,4 @@
+pub mod Apexes
+pub mod ApexesLaws
+pub mod Counting
+pub mod CountingLaws
