@@ -96,5 +96,5 @@ fn main() {
     let n = io::read_full(0, &mut text);
     table(&text[..n]);
     every(false, b" plans of 4 bytes agree, in form, pairs and core\n");
-    every(true, b" pairs of plans of 2 bytes agree, joined or apart\n");
+    every(true, b" pairs of plans of 2 bytes agree, also in rounds\n");
 }

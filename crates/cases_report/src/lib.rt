@@ -1,6 +1,7 @@
 // The answers to the bench cases, of the library and of the solver, and how they are printed. An answer is a word: a
 // normal form or a core behind its length, the pairs of a normal form (pairs.rt says how), a verdict (1 for yes, 0 for
-// no, 2 for a yes that is not borne out) or a refusal as the crate cases_solver has it.
+// no, 2 for a yes that is not borne out; of two loops with the rounds behind it) or a refusal as the crate cases_solver
+// has it.
 
 mod library;
 mod pairs;

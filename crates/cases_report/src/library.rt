@@ -4,6 +4,7 @@ use crate::pairs::Numbers;
 use crate::pairs::first_pairs;
 use crate::pairs::kept;
 use crate::pairs::marked;
+use crate::solver::settled;
 use crate::solver::verdict;
 use cases_solver::Word;
 use cases_solver::at;
@@ -90,11 +91,10 @@ pub fn lead_in(answer: Loops) -> usize {
 // Of two loops, whose lead-in leads from one to the other, or not.
 pub fn joined(answer: Loops, leads: bool) -> Word {
     match answer {
-        Loops::Joined {
-            length: _,
-            rounds: _,
-        } => verdict(if leads { 1 } else { 2 }),
-        Loops::Apart { rounds: _ } => verdict(0),
+        Loops::Joined { length: _, rounds } => {
+            settled(if leads { 1 } else { 2 }, (rounds % 256) as u8)
+        }
+        Loops::Apart { rounds } => settled(0, (rounds % 256) as u8),
         Loops::Refused(refusal) => refused(refusal),
     }
 }

@@ -107,6 +107,19 @@ fn verdict(call: u8, number: u8) {
     }
 }
 
+// The rounds that settling takes, behind a verdict on two loops.
+fn rounds(call: u8, n: u8) {
+    if call != b'l' {
+        return;
+    }
+    text(b", ");
+    number(n as usize);
+    text(b" round");
+    if n != 1 {
+        byte(b's');
+    }
+}
+
 // The answer to a call.
 fn answer(call: u8, answer: Word) {
     if at(&answer, 63) != 0 {
@@ -117,6 +130,7 @@ fn answer(call: u8, answer: Word) {
         pairs(answer);
     } else {
         verdict(call, at(&answer, 0));
+        rounds(call, at(&answer, 1));
     }
 }
 

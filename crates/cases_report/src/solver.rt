@@ -8,6 +8,7 @@ use cases_solver::blank;
 use cases_solver::core;
 use cases_solver::joined;
 use cases_solver::leads;
+use cases_solver::most_rounds;
 use cases_solver::normal_form;
 use cases_solver::or;
 use cases_solver::pairs;
@@ -28,6 +29,11 @@ fn paired(c: &[u8], plan: &[u8]) -> Word {
     let mut numbers = second_area();
     let n = pairs(c, plan, &mut numbers);
     first_pairs(&numbers, n)
+}
+
+// A verdict on two loops, with the rounds that settling takes.
+pub fn settled(number: u8, rounds: u8) -> Word {
+    with(verdict(number), 1, rounds)
 }
 
 // The answer to a call by its letter, in an area of so many bytes and a second one of so many numbers.
@@ -54,7 +60,7 @@ pub fn solved(
         b'e' => verdict(same(normal_form(c, v), normal_form(c, w)) as u8),
         b'l' => or(
             refusal_of_loops(c, v, w, room),
-            verdict(joined(c, v, w) as u8),
+            settled(joined(c, v, w) as u8, most_rounds(c, v, w)),
         ),
         b'f' => refusal_of_three(c, v, w, u),
         _ => verdict(leads(c, v, w, u, u.len()) as u8),

@@ -10,7 +10,7 @@ use crate::word::undo;
 use crate::word::with;
 
 // The first place whose letter is tied to a, or 64.
-fn first_tied(c: &[u8], word: Word, a: u8) -> usize {
+pub fn first_tied(c: &[u8], word: Word, a: u8) -> usize {
     let mut i: usize = 0;
     while i < 64 && !tied(c, a, at(&word, i)) {
         i += 1;

@@ -6,6 +6,7 @@ mod conjugacy;
 mod form;
 mod pairing;
 mod refusals;
+mod rounds;
 mod word;
 
 pub use catalogue::tied;
@@ -21,6 +22,7 @@ pub use refusals::refusal_of_form;
 pub use refusals::refusal_of_loops;
 pub use refusals::refusal_of_normal_form;
 pub use refusals::refusal_of_three;
+pub use rounds::most_rounds;
 pub use word::Word;
 pub use word::at;
 pub use word::blank;
