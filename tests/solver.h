@@ -50,4 +50,8 @@ int64_t solver_lead_in_check(const uint8_t *catalogue, size_t catalogue_size, co
 int64_t solver_fault(const uint8_t *catalogue, size_t catalogue_size, const uint8_t *v, size_t v_size,
                      const uint8_t *w, size_t w_size, const uint8_t *u, size_t u_size, uint64_t fault[2]);
 
+/* solver_loops, which where it gives 0 or more also counts the rounds: the most that a part of either core takes. */
+int64_t solver_loops_rounds(const uint8_t *catalogue, size_t catalogue_size, const uint8_t *v, size_t v_size,
+                            const uint8_t *w, size_t w_size, uint8_t *area, size_t area_size, unsigned *rounds);
+
 #endif
