@@ -86,8 +86,8 @@ starred-hold =
     & joined-row (1 ∷ 2 ∷ []) (2 ∷ 1 ∷ []) (undo2 ∷ []) (1 ∷ []) 1 refl refl refl refl (omega arith) refl refl refl
     & apart-row (1 ∷ []) (undo1 ∷ []) 0 refl refl refl
     & apart-row (1 ∷ 2 ∷ 1 ∷ undo2 ∷ []) (1 ∷ 1 ∷ []) 1 refl refl refl
-    & joined-row (1 ∷ 2 ∷ 3 ∷ 4 ∷ []) (1 ∷ 2 ∷ 3 ∷ 4 ∷ []) [] (1 ∷ 2 ∷ 3 ∷ 4 ∷ []) 3 refl refl refl refl (omega arith)
-    refl refl refl
+    & joined-row (1 ∷ 2 ∷ 3 ∷ 4 ∷ []) (1 ∷ 2 ∷ 3 ∷ 4 ∷ []) [] (1 ∷ 2 ∷ 3 ∷ 4 ∷ []) 3
+    refl refl refl refl (omega arith) refl refl refl
     & apart-row (1 ∷ []) (1 ∷ 2 ∷ 3 ∷ 4 ∷ []) 3 refl refl refl
     & joined-row [] [] [] [] 0 refl refl refl refl (omega arith) refl refl refl
     & (refl, refl)
