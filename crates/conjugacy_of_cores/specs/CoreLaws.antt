@@ -1,6 +1,6 @@
 -- Two cores: where other commands occur they are apart, and where the same occur their parts decide.
 use Prim.Native.Nat.{ℕ, max}
-use mathlib.Core.Path.{_≡_, refl, sym, _∙_, ap, subst}
+use mathlib.Core.Path.{_≡_, refl, _∙_, ap, subst}
 use mathlib.Core.Bool.{Bool, true, false, _&&_}
 use mathlib.Core.List.{List}
 use Rattle.spec.specs.Letters.{alphabet}

@@ -5,11 +5,13 @@ use native.Mathlib.Nat.{mul-add}
 use mathlib.Core.Path.{_≡_, _∙_, ap, subst}
 use mathlib.Core.List.{List}
 use lib.ListN.{length}
+use Rattle.spec.specs.Catalogue as Catalogue
 use Rattle.spec.specs.Letters.{alphabet}
 use Rattle.theory_conjugacy.specs.Part.{commands, labels, label}
 use Rattle.theory_conjugacy.specs.Rounds.{most-rounds, core-rounds}
 use Rattle.conjugacy_commands.specs.Flags.{Flags}
 use Rattle.conjugacy_labels.specs.Labels.{LabelsOf}
+use Rattle.conjugacy_settled_parts.specs.PartOf.{Cyclic}
 use Rattle.conjugacy_rounds.specs.Apexes.{apexesFrom}
 use Rattle.conjugacy_rounds.specs.ApexesLaws.{apexes-from}
 use Rattle.conjugacy_rounds.specs.Counting.{CoreOf, Counts}
@@ -17,12 +19,8 @@ use Rattle.conjugacy_of_parts.specs.Parts.{bothRounds}
 use Rattle.conjugacy_of_cores.specs.Pair.{Flagged, Coreable, coresRounds}
 
 -- room for both is room for either
-
-first-room : (n l m at r : ℕ) → at + n * (l + m) ≤ r → at + n * l ≤ r
-first-room n l m at r h = omega (arith, mul-add n l m)
-
-second-room : (n l m at r : ℕ) → at + n * (l + m) ≤ r → at + n * m ≤ r
-second-room n l m at r h = omega (arith, mul-add n l m)
+either-room : (n l m at r : ℕ) → at + n * (l + m) ≤ r → (at + n * l ≤ r) × (at + n * m ≤ r)
+either-room n l m at r h = (omega (arith, mul-add n l m), omega (arith, mul-add n l m))
 
 -- where the same commands occur
 
@@ -34,7 +32,7 @@ module _ {c : List ℕ} {conflicts : List (List ℕ)} {x y fs labels : List ℕ}
     core = h .two .first;
     flags = h .flags;
     enough = h .enough;
-    room = omega (arith, first-room rounds (length x) (length y) at n r);
+    room = omega (arith, either-room rounds (length x) (length y) at n r .0);
   }
 
   pub flagged-second : CoreOf c conflicts y fs labels rounds row at
@@ -42,7 +40,7 @@ module _ {c : List ℕ} {conflicts : List (List ℕ)} {x y fs labels : List ℕ}
     core = h .two .second;
     flags = subst (λ (ks : List ℕ). Flags ks fs) (h .two .same) (h .flags);
     enough = h .enough;
-    room = omega (arith, second-room rounds (length x) (length y) at n r);
+    room = omega (arith, either-room rounds (length x) (length y) at n r .1);
   }
 
 pub both-counted : (c x y ms : List ℕ) {row row′ row″ : List ℕ} {at n m : ℕ} → Counts c x ms 0 row row′ at n
@@ -51,28 +49,26 @@ both-counted c x y ms a b = omega (arith, a .count, b .count)
 
 -- whole cores
 
+core-of : {c : List ℕ} {conflicts : List (List ℕ)} {x fs names : List ℕ} {rounds : ℕ} {row : List ℕ} {at : ℕ}
+    → Cyclic c conflicts x → rounds ≡ Catalogue.commands c → at + rounds * length x ≤ length row
+    → Flags (commands (alphabet c) x) fs → LabelsOf (labels (alphabet c) (commands (alphabet c) x)) names
+    → CoreOf c conflicts x fs names rounds row at
+unfolding label
+core-of k e r f l = record { core = record { cyclic = k; labelled = l }; flags = f; enough = e; room = r }
+
 module _ {c : List ℕ} {conflicts : List (List ℕ)} {x y : List ℕ} {rounds : ℕ} {row : List ℕ} {at : ℕ}
     (h : Coreable c conflicts x y rounds row at) {fs names : List ℕ} where
   pub core-first : Flags (commands (alphabet c) x) fs
       → LabelsOf (labels (alphabet c) (commands (alphabet c) x)) names → CoreOf c conflicts x fs names rounds row at
-  unfolding label
-  core-first f l = record {
-    core = record { cyclic = h .first; labelled = l };
-    flags = f;
-    enough = h .enough;
-    room = first-room rounds (length x) (length y) at (length row) (h .room);
-  }
+  core-first =
+      core-of (h .first) (h .enough) (either-room rounds (length x) (length y) at (length row) (h .room) .0)
 
   pub core-second : Flags (commands (alphabet c) y) fs
       → LabelsOf (labels (alphabet c) (commands (alphabet c) y)) names
       → {row′ : List ℕ} → length row′ ≡ length row → CoreOf c conflicts y fs names rounds row′ at
-  unfolding label
-  core-second f l e = record {
-    core = record { cyclic = h .second; labelled = l };
-    flags = f;
-    enough = h .enough;
-    room = omega (arith, second-room rounds (length x) (length y) at (length row) (h .room));
-  }
+  core-second f l e =
+      core-of (h .second) (h .enough)
+      (omega (arith, either-room rounds (length x) (length y) at (length row) (h .room) .1)) f l
 
 -- the apexes from the first command on are all
 core-counted : {c : List ℕ} {conflicts : List (List ℕ)} {x fs names : List ℕ} {rounds : ℕ} {row row′ : List ℕ}

@@ -3,7 +3,7 @@
 use Prim.Native.Nat.{ℕ, _+_, _≤_, _<_, max}
 use native.Mathlib.Omega.{arith}
 use mathlib.Core.Path.{_≡_, refl, sym, _∙_, ap, subst}
-use mathlib.Core.Bool.{Bool, true, false}
+use mathlib.Core.Bool.{Bool, false}
 use mathlib.Core.List.{List, [], _∷_, _++_, List·Memᴰ}
 use mathlib.Core.Logic.{_⊎_, inl, inr}
 use lib.ListN.{length}
@@ -24,8 +24,9 @@ use Rattle.theory_conjugacy.specs.RoundsLaws.{part-counted, part-rounds-few, co
 use Rattle.theory_conjugacy.specs.RoundsLaws.{core-rounds-nil}
 use Rattle.spec.specs.Table.{given}
 use Rattle.spec.specs.Catalogue.{commands}
-use Rattle.spec.specs.Plan.{isCommand, Passing}
+use Rattle.spec.specs.Plan.{Passing}
 use Rattle.spec.specs.Byte.{commandOf}
+use Rattle.spec.specs.Step.{Command}
 use Rattle.spec.specs.Letters.{alphabet}
 use Rattle.spec.specs.Answers.{DecidedLoops}
 use Rattle.spec.specs.Calls.{coreForm}
@@ -42,9 +43,6 @@ module _ (c : List ℕ) where
   infix 20 _~_
   abbrev _~_ : List ℕ → List ℕ → Type 0
   _~_ = Trace._~_ (alphabet c)
-
-  abbrev Does : ℕ → Type 0
-  Does b = isCommand (commands c) b ≡ true
 
   -- Words and their commands
 
@@ -91,10 +89,10 @@ module _ (c : List ℕ) where
       r = i .rest
 
       beside : Commands (commands c) (y ++ r)
-      beside = all-along (alphabet c) Does (swaps-words c (i .parted)) h
+      beside = all-along (alphabet c) (Command c) (swaps-words c (i .parted)) h
 
       part-commands : Commands (commands c) y
-      part-commands = all-left Does y r beside
+      part-commands = all-left (Command c) y r beside
 
       -- and there is no other, up to swaps
       is-part : (m ∈ apexes (alphabet c) x) × (y ~ part (alphabet c) m x)

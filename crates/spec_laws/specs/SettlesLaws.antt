@@ -2,7 +2,6 @@
 use Prim.Native.Nat.{ℕ, zero, suc, _≤_}
 use native.Mathlib.Omega.{arith}
 use mathlib.Core.Path.{_≡_, refl, _∙_, ap}
-use mathlib.Core.Bool.{true}
 use mathlib.Core.List.{List, [], _∷_, _++_}
 use Rattle.theory_words.specs.All.{all-along, all-append, all-left, all-right}
 use Rattle.theory_words.specs.Trace as Trace
@@ -12,7 +11,7 @@ use Rattle.theory_conjugacy.specs.Settle.{counted, counted-step, Split, Rounded
 use Rattle.theory_conjugacy.specs.SettleLaws.{split-~, split-free, split-pyramid}
 use Rattle.theory_conjugacy.specs.HalvesLaws.{counted-round}
 use Rattle.spec.specs.Catalogue.{commands}
-use Rattle.spec.specs.Plan.{isCommand}
+use Rattle.spec.specs.Step.{Command}
 use Rattle.spec.specs.Letters.{alphabet}
 use Rattle.spec.specs.Rounds.{Halves, Settles, settled}
 use Rattle.spec.specs.Rounds as rounds
@@ -23,9 +22,6 @@ module _ (c : List ℕ) where
   infix 20 _~_
   abbrev _~_ : List ℕ → List ℕ → Type 0
   _~_ = Trace._~_ (alphabet c)
-
-  abbrev Does : ℕ → Type 0
-  Does b = isCommand (commands c) b ≡ true
 
   -- the halves of a split
   halves : {m : ℕ} {y p q : List ℕ} → Commands (commands c) y → Split (alphabet c) m [] y p q → Halves c m y p q
@@ -40,8 +36,8 @@ module _ (c : List ℕ) where
   -- what a round makes of a word of commands is one
   turned : {y : List ℕ} (p q : List ℕ) → y ~ (p ++ q) → Commands (commands c) y → Commands (commands c) (q ++ p)
   turned p q e h =
-      let k = all-along (alphabet c) Does e h in
-      all-append Does q p (all-right Does p q k) (all-left Does p q k)
+      let k = all-along (alphabet c) (Command c) e h in
+      all-append (Command c) q p (all-right (Command c) p q k) (all-left (Command c) p q k)
 
   pub rounded-settles : {m n : ℕ} {y g r : List ℕ} → Commands (commands c) y → Rounded (alphabet c) m n y g r
       → Settles c m n y
@@ -54,7 +50,7 @@ module _ (c : List ℕ) where
       → counted (alphabet c) m (suc k) y ≡ counted-step (alphabet c) m p q (counted (alphabet c) m k)
   halves-counted {m} p q k h d =
       let e = swaps-words c (d .parted) in
-      let i = all-left Does q p (turned p q e h) in
+      let i = all-left (Command c) q p (turned p q e h) in
       counted-round (alphabet c) m k p q e (d .below)
       (λ a f. d .above a (f .0) (words-swaps c (pick-front (alphabet c) (f .1)) i))
 
