@@ -14,6 +14,7 @@ pub mod Answers
 pub mod Pairs
 pub mod Calls
 pub mod Rounds
+pub mod Bits
 pub mod Loops
 pub mod Fault
 pub mod Notation

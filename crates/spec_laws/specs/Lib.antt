@@ -23,6 +23,7 @@ pub mod LoopLaws
 pub mod UnsettledLaws
 pub mod SettlesLaws
 pub mod RoundsLaws
+pub mod BitsLaws
 pub mod FaultLaws
 pub mod VerdictLaws
 pub mod CodeLaws
