@@ -38,7 +38,7 @@ empty-meeting = record {
 
 -- how many are in a set
 
-size-most : {s : List ℕ} {n : ℕ} → Size s n → n ≤ length s
+pub size-most : {s : List ℕ} {n : ℕ} → Size s n → n ≤ length s
 size-most none = omega arith
 size-most (less l z) = omega (arith, size-most z)
 size-most (more l z) = omega (arith, size-most z)

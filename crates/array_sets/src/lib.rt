@@ -1,6 +1,7 @@
-// Sets of the commands 1 to 24. A set keeps for each command how many in the set it conflicts with: the set test,
-// whether a command is independent of every command in a set, is one look-up.
+// Sets of the commands 1 to 24. A set keeps for each command how many in the set it conflicts with. The set test,
+// whether a command is independent of every command in a set, compares its conflicts with the set as bits.
 
+use array_bits::gather;
 use array_counts::lift;
 ghost use Prim.Native.Nat.{_<_};
 ghost use mathlib.Core.Path.{_≡_};
@@ -22,7 +23,10 @@ pub fn independent(k: usize, conflicts: &[[u16; 24]; 24], set: &[u16; 24]) -> bo
     requires { ⌜ (k < 24) × Meeting (now conflicts) (now set) ⌝ }
     ensures { λ r. ⌜ ((r ≡ true) ↔ Clear (getD (now (conflicts .entry)) k []) (now (set .entry))) ⌝ }
 {
-    set[k] == 0
+    // The commands that it conflicts with, and those in the set.
+    let against = gather(&conflicts[k], 1, 1);
+    let inside = gather(set, 32768, 65535);
+    against & inside == 0
 }
 
 // Command k + 1 is put in the set, with its conflicts.

@@ -1,16 +1,18 @@
--- `array_sets::independent` meets its contract: that is what the set's number at k tells. Assumes nothing.
+-- `array_sets::independent` meets its contract: that is what the bits that both numbers have tell. Assumes nothing.
 use native.Mathlib.Omega.{arith}
-use lib.ListN.{getD}
+use lib.Bits.{bitAnd}
 use borrow.Author.Tests.{eqb-true, eq-eqb}
+use Rattle.array_sets.specs.TestLaws.{clear-by-bits}
 use Rattle.array_sets.proofs.independent.Statement.{statement}
 use Rattle.array_sets.proofs.independent.Tie as tie
 
 returns : tie.Need-returns
 returns c =
-    let a = c .before .args in
-    let n = getD (a .set .now) (a .k) 0 in
-    let (to, from) = c .before .pre .1 .tells (a .k) (c .before .pre .0) in
-    (λ e. to (eqb-true n 0 e), λ f. eq-eqb n 0 (from f))
+    let s = c .before .before .before .pre .1 in
+    let shared = bitAnd (c .before .gather .result) (c .gather2 .result) in
+    let (to, from) = clear-by-bits s (c .before .gather .ensures) (c .gather2 .ensures) in
+    (λ e. to (eqb-true shared 0 e), λ f. eq-eqb shared 0 (from f))
 
 pub independent-spec : {M : Type 1} → statement M
-independent-spec = tie.close (tie.spec (λ c. omega arith) (λ c. omega arith) returns)
+independent-spec =
+    tie.close (tie.spec (λ c. omega arith) (λ c. omega arith) (λ c κs. tt) (λ c κs. tt) returns)
