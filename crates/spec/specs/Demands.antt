@@ -1,14 +1,16 @@
 -- What was bought: the demands, as statements without proofs. The contract of each call says that the call, on any
 -- bytes, answers what its definition says (Calls, Loops) and leaves its areas as its definition says; here stands what
--- that is worth, over steps (Step), their order (Order), pairs (Core), lead-ins (Join) and rounds (Rounds) alone. The
--- crate spec_laws proves each demand as one value (DemandsMet), the crate loops_framing that of the program's input.
-use Prim.Native.Nat.{ℕ, _+_, _*_, _≤_, _<_}
+-- that is worth, over steps (Step), their order (Order), pairs (Core), lead-ins (Join), rounds (Rounds) and bits (Bits)
+-- alone. The crate spec_laws proves each demand as one value (DemandsMet), the crate loops_framing that of the
+-- program's input.
+use Prim.Native.Nat.{ℕ, _+_, _*_, _^_, _≤_, _<_}
 use mathlib.Core.Path.{_≡_}
-use mathlib.Core.Bool.{Bool, true}
+use mathlib.Core.Bool.{Bool, true, false}
 use mathlib.Core.List.{List, [], _++_, List·Memᴰ}
 use mathlib.Core.Option.{Option, none, some}
 use mathlib.Core.Logic.{_↔_, _⊎_}
 use lib.ListN.{length, take, drop, getD}
+use lib.Bits.{bitAnd}
 use Rattle.theory_words.specs.All.{All}
 use Rattle.spec.specs.Table.{Line, line, Answer, refused, given, firstLine, orElse, orKept, NoneHolds, FirstHolds}
 use Rattle.spec.specs.Catalogue.{commands, countLine, catalogueLines}
@@ -25,6 +27,7 @@ use Rattle.spec.specs.Calls.{planLimit, normalFormAnswer, normalFormArea
 use Rattle.spec.specs.Calls.{catalogueAnswer, catalogueTable, normalFormLines, equalLines, equalAnswer}
 use Rattle.spec.specs.Calls.{pairedLines, pairedAnswer, pairedArea, pairedNumbers}
 use Rattle.spec.specs.Rounds.{IsPart, Settles, Needs}
+use Rattle.spec.specs.Bits.{Within, Gathered}
 use Rattle.spec.specs.Loops.{loopsLines, Looped, LeadIn, checkLines, checkAnswer}
 use Rattle.spec.specs.Fault.{faultLines, faultAnswer}
 use Rattle.spec.specs.Notation.{Items, Text, Wrong, planOf, sizeOf, nestingOf}
@@ -140,6 +143,16 @@ pub record RoundsDemand : Type 0 where
   pub told-few : {c v w area after : List ℕ} {d : DecidedLoops} → Looped c v w area (given d) after
       → (ks js : List ℕ) → Holds ks (coreForm c v) → Holds js (coreForm c w)
       → (d .rounds ≡ 0) ⊎ (d .rounds < length ks) ⊎ (d .rounds < length js)
+
+-- The set test. At most one number gathers 24 numbers, and it is below 2 ^ 24. Take row i of a catalogue's table with
+-- its ones gathered, and any 24 numbers with those from low to high gathered, as a set of commands: the two share no
+-- bit exactly if command i + 1 conflicts with no command in the set.
+pub record SetTestDemand : Type 0 where
+  pub one-number : {low high n m : ℕ} {s : List ℕ} → Gathered low high s n → Gathered low high s m → n ≡ m
+  pub fits : {low high n : ℕ} {s : List ℕ} → Gathered low high s n → n < 2 ^ 24
+  pub shares-none : (c : List ℕ) (t : List (List ℕ)) (n : ℕ) → catalogueAnswer c ≡ given n → (i : ℕ) → i < 24
+      → {a b low high : ℕ} {s : List ℕ} → Gathered 1 1 (getD (catalogueTable c t) i []) a → Gathered low high s b
+      → (bitAnd a b ≡ 0) ↔ ((j : ℕ) → Within low high s j → conflict c (i + 1) (j + 1) ≡ false)
 
 -- the fault of catalogue c and plans v, w, u, where there is one, is what a call with the lines ls is refused for; where
 -- there is none, the call is refused for an area, by line 9, or not at all

@@ -1,13 +1,14 @@
 -- For the reader, and cited by no other file: the demands are met, each is a value of its statement in the crate spec.
 use Prim.Native.Nat.{ℕ, _+_, _*_, _≤_, _<_}
 use mathlib.Core.Path.{_≡_, refl, sym, _∙_, ap}
-use mathlib.Core.Bool.{Bool, true}
+use mathlib.Core.Bool.{Bool, true, false}
 use mathlib.Core.List.{List, [], _∷_, _++_}
 use mathlib.Core.Option.{Option, none, some}
 use mathlib.Core.Logic.{_↔_}
 use native.Mathlib.Omega.{arith}
 use lib.ListN.{length, take, drop, getD}
 use lib.Dec.{ltb}
+use lib.Bits.{bitAnd}
 use lib.Seq.{take-at, take-append-seam, drop-append-seam}
 use Rattle.theory_words.specs.Alike.{alike?}
 use Rattle.theory_words.specs.AlikeLaws.{alike-exact}
@@ -28,7 +29,7 @@ use Rattle.spec_laws.specs.SearchLaws.{given-not}
 use Rattle.spec.specs.Step.{Equal}
 use Rattle.spec.specs.Demands.{Demand1, Demand2, Demand3, Shortest, Exact, IsCore}
 use Rattle.spec.specs.Demands.{CatalogueDemand, PairsDemand, CoreDemand, RoundsDemand, FaultDemand, ProgramDemand}
-use Rattle.spec.specs.Demands.{PlansDemand}
+use Rattle.spec.specs.Demands.{SetTestDemand, PlansDemand}
 use Rattle.spec.specs.Calls.{planLimit, areaLine, areaAfter, normalFormLines, normalFormAnswer, normalFormArea}
 use Rattle.spec.specs.Calls.{catalogueAnswer, catalogueTable, coreForm, coreAnswer, coreArea, equalLines, equalAnswer}
 use Rattle.spec.specs.Calls.{pairedLines, pairedCounts, pairedAnswer, pairedArea, pairedNumbers}
@@ -39,6 +40,8 @@ use Rattle.spec_laws.specs.PairedLaws.{form-few, form-passes, paired-ref
 use Rattle.spec.specs.Loops.{leadInRoom, loopsLines, Looped, refuses, apart, joined, LeadIn}
 use Rattle.spec.specs.Loops.{checkLines, checkResult, checkAnswer}
 use Rattle.spec_laws.specs.UnsettledLaws.{never-ten}
+use Rattle.spec.specs.Bits.{Within, Gathered}
+use Rattle.spec_laws.specs.BitsLaws.{gathered-once, gathered-fits, share-none}
 use Rattle.spec_laws.specs.RoundsLaws.{part-settles, part-number, part-few, rounds-told, rounds-few}
 use Rattle.spec.specs.Fault.{faultLines}
 use Rattle.spec_laws.specs.FaultLaws.{catalogue-explained, form-explained, equal-explained, loops-explained}
@@ -277,6 +280,27 @@ demand-rounds =
       told = rounds-told;
       told-few = rounds-few;
     }
+
+-- The set test
+
+row-clear : (c : List ℕ) (t : List (List ℕ)) (n : ℕ) → catalogueAnswer c ≡ given n → (i : ℕ) → i < 24
+    → {a b low high : ℕ} {s : List ℕ} → Gathered 1 1 (getD (catalogueTable c t) i []) a → Gathered low high s b
+    → (bitAnd a b ≡ 0) ↔ ((j : ℕ) → Within low high s j → conflict c (i + 1) (j + 1) ≡ false)
+row-clear c t n e i h {low = low} {high = high} {s = s} g f = (
+  λ z j w. none-met j w (conflict c (i + 1) (j + 1)) (number j (w .0)) (share-none g f .0 z j),
+  λ o. share-none g f .1 (λ j v w. omega (arith, v .1, number j (w .0), ap yesNo (o j w))),
+)
+  where
+    number : (j : ℕ) → j < 24 → getD (getD (catalogueTable c t) i []) j 0 ≡ yesNo (conflict c (i + 1) (j + 1))
+    number j l = catalogue-table c t n e i j h l
+
+    none-met : (j : ℕ) → Within low high s j → (x : Bool) → getD (getD (catalogueTable c t) i []) j 0 ≡ yesNo x
+        → (Within 1 1 (getD (catalogueTable c t) i []) j → Within low high s j → ⊥) → x ≡ false
+    none-met j w false q o = refl
+    none-met j w true q o = absurd (o (w .0, omega arith, omega arith) w)
+
+pub demand-set-test : SetTestDemand
+demand-set-test = record { one-number = λ g h. gathered-once g h; fits = gathered-fits; shares-none = row-clear }
 
 -- The fault call
 
