@@ -144,10 +144,11 @@ pub record RoundsDemand : Type 0 where
       → (ks js : List ℕ) → Holds ks (coreForm c v) → Holds js (coreForm c w)
       → (d .rounds ≡ 0) ⊎ (d .rounds < length ks) ⊎ (d .rounds < length js)
 
--- The set test. At most one number gathers 24 numbers, and it is below 2 ^ 24. Take row i of a catalogue's table with
--- its ones gathered, and any 24 numbers with those from low to high gathered, as a set of commands: the two share no
--- bit exactly if command i + 1 conflicts with no command in the set.
+-- The set test. Just one number gathers 24 numbers, and it is below 2 ^ 24. Take row i of a catalogue's table with its
+-- ones gathered, and any 24 numbers with those from low to high gathered, as a set of commands: the two share no bit
+-- exactly if command i + 1 conflicts with no command in the set.
 pub record SetTestDemand : Type 0 where
+  pub some-number : (low high : ℕ) (s : List ℕ) → (n : ℕ) × Gathered low high s n
   pub one-number : {low high n m : ℕ} {s : List ℕ} → Gathered low high s n → Gathered low high s m → n ≡ m
   pub fits : {low high n : ℕ} {s : List ℕ} → Gathered low high s n → n < 2 ^ 24
   pub shares-none : (c : List ℕ) (t : List (List ℕ)) (n : ℕ) → catalogueAnswer c ≡ given n → (i : ℕ) → i < 24

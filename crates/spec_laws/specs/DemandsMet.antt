@@ -42,6 +42,7 @@ use Rattle.spec.specs.Loops.{checkLines, checkResult, checkAnswer}
 use Rattle.spec_laws.specs.UnsettledLaws.{never-ten}
 use Rattle.spec.specs.Bits.{Within, Gathered}
 use Rattle.spec_laws.specs.BitsLaws.{gathered-once, gathered-fits, share-none}
+use Rattle.spec_laws.specs.GatherLaws.{gathered-some}
 use Rattle.spec_laws.specs.RoundsLaws.{part-settles, part-number, part-few, rounds-told, rounds-few}
 use Rattle.spec.specs.Fault.{faultLines}
 use Rattle.spec_laws.specs.FaultLaws.{catalogue-explained, form-explained, equal-explained, loops-explained}
@@ -300,7 +301,13 @@ row-clear c t n e i h {low = low} {high = high} {s = s} g f = (
     none-met j w true q o = absurd (o (w .0, omega arith, omega arith) w)
 
 pub demand-set-test : SetTestDemand
-demand-set-test = record { one-number = λ g h. gathered-once g h; fits = gathered-fits; shares-none = row-clear }
+demand-set-test =
+    record {
+      some-number = λ low high s. gathered-some;
+      one-number = λ g h. gathered-once g h;
+      fits = gathered-fits;
+      shares-none = row-clear;
+    }
 
 -- The fault call
 

@@ -24,6 +24,7 @@ pub mod UnsettledLaws
 pub mod SettlesLaws
 pub mod RoundsLaws
 pub mod BitsLaws
+pub mod GatherLaws
 pub mod FaultLaws
 pub mod VerdictLaws
 pub mod CodeLaws

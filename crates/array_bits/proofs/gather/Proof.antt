@@ -6,7 +6,7 @@ use mathlib.Core.Logic.{⊎-elim}
 use lib.ListN.{getD}
 use lib.Pow.{pow-pos, shl-exact}
 use borrow.Author.Tests.{leb-true, leb-false}
-use Rattle.array_bits.specs.GatherLaws.{Gathering, gathering-start, gathering-in, gathering-out, gathering-end}
+use Rattle.spec_laws.specs.GatherLaws.{Gathering, gathering-start, gathering-in, gathering-out, gathering-end}
 use Rattle.array_bits.proofs.gather.Statement.{statement}
 use Rattle.array_bits.proofs.gather.Tie as tie
 

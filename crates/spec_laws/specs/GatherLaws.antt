@@ -1,13 +1,14 @@
--- Gathering number by number, from the last on.
-use Prim.Native.Nat.{ℕ, _-_, _*_, _^_, _<_, _≤_}
+-- Gathering number by number, from the last on; so some number gathers any 24.
+use Prim.Native.Nat.{ℕ, zero, suc, _-_, _*_, _^_, _<_, _≤_}
 use native.Mathlib.Omega.{arith}
-use native.Mathlib.Decide.{ℕ-discrete}
-use mathlib.Core.Path.{_≡_, sym}
+use native.Mathlib.Decide.{ℕ-discrete, decLe}
+use mathlib.Core.Path.{_≡_, refl, sym}
 use mathlib.Core.List.{List}
 use mathlib.Core.Logic.{_↔_, _⊎_, inl, inr}
+use lib.ListN.{getD}
 use lib.Bits.{bitOr}
 use Rattle.spec.specs.Bits.{Bit, Within, Gathered}
 use Rattle.spec_laws.specs.BitsLaws.{or-bit, none-of-zero, power-bit}
 
 -- n gathers the numbers of s from index k on
 pub record Gathering (low high : ℕ) (s : List ℕ) (k n : ℕ) : Type 0 where
@@ -56,3 +57,25 @@ module _ {low high : ℕ} {s : List ℕ} where
         back : (j : ℕ) → Within low high s j → (j ≡ k - 1) ⊎ Bit n j → Bit n j
         back j w (inl i) = absurd (o (rw (sym i) w))
         back j w (inr e) = e
+
+    -- that number is gathered or left out
+    gathering-on : k ≤ 24 → (m : ℕ) × Gathering low high s (k - 1) m
+    gathering-on l = go (decLe low (getD s (k - 1) 0)) (decLe (getD s (k - 1) 0) high)
+      where
+        go : Dec (low ≤ getD s (k - 1) 0) → Dec (getD s (k - 1) 0 ≤ high) → (m : ℕ) × Gathering low high s (k - 1) m
+        go (yes p) (yes q) = (bitOr n (1 * 2 ^ (k - 1)), gathering-in refl (omega arith, p, q))
+        go (yes p) (no q) = (n, gathering-out (λ w. q (w .2)))
+        go (no p) (yes q) = (n, gathering-out (λ w. p (w .1)))
+        go (no p) (no q) = (n, gathering-out (λ w. p (w .1)))
+
+  -- the last j numbers gathered
+  last-gathered : (j : ℕ) → j ≤ 24 → (n : ℕ) × Gathering low high s (24 - j) n
+  last-gathered zero l = (0, gathering-start (omega arith))
+  last-gathered (suc j) l =
+      let (n, g) = last-gathered j (omega arith) in
+      let (m, h) = gathering-on g (omega arith) (omega arith) in
+      let e : 24 - j - 1 ≡ 24 - suc j = omega arith in
+      (m, rw e at h)
+
+  pub gathered-some : (n : ℕ) × Gathered low high s n
+  gathered-some = let (n, g) = last-gathered 24 (omega arith) in (n, gathering-end g)
