@@ -15,12 +15,13 @@ use Rattle.input_catalogue.specs.declared.Checked.the-variants.{Refused, Passed
 use Rattle.conjugacy_of_parts.specs.declared.Outcome.{Outcome}
 use Rattle.conjugacy_by_cores.specs.Join as Join
 use Rattle.conjugacy_by_cores.specs.Join.{Plans, PlansOutcome}
-use Rattle.spec_laws.specs.UnsettledLaws.{never-unsettled}
+use Rattle.spec_laws.specs.RetiredLaws.{never-unsettled}
 use Rattle.input_checks.specs.Entry.{TwoPlans, twoLines, SameRefusal}
 use Rattle.input_checks.specs.EntryLaws.{entered-none, entered-some, entered-commands}
 use Rattle.spec.specs.Answers.{DecidedLoops}
 use Rattle.spec.specs.Calls.{areaLine}
-use Rattle.spec.specs.Loops.{Looped, refuses, apart, joined, loopsLines, leadInRoom, unsettledLine}
+use Rattle.spec.specs.Retired.{unsettledLine}
+use Rattle.spec.specs.Loops.{Looped, refuses, apart, joined, loopsLines, leadInRoom}
 use Rattle.conjugacy_of_parts.specs.Outcomes.{toldOutcome}
 
 module _ {c v w : List ℕ} {rows : List (List ℕ)} {r : Checked} (d : TwoPlans c v w rows r) (area : List ℕ) where

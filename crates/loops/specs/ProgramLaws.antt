@@ -21,7 +21,8 @@ use Rattle.spec.specs.Calls.{planLimit, areaLine, normalFormLines, coreForm, co
 use Rattle.spec_laws.specs.CallLaws.{few-commands}
 use Rattle.spec_laws.specs.SearchLaws.{given-not}
 use Rattle.spec_laws.specs.LoopLaws.{lead-in-same}
-use Rattle.spec.specs.Loops.{loopsLines, leadInRoom, unsettledLine, Looped, refuses, apart, joined}
+use Rattle.spec.specs.Retired.{unsettledLine}
+use Rattle.spec.specs.Loops.{loopsLines, leadInRoom, Looped, refuses, apart, joined}
 use Rattle.spec.specs.declared.Written.{Written}
 use Rattle.spec.specs.declared.Written.the-variants as written
 use Rattle.spec.specs.declared.Loops.{Loops}

@@ -1,8 +1,8 @@
 -- What was bought: the demands, as statements without proofs. The contract of each call says that the call, on any
 -- bytes, answers what its definition says (Calls, Loops) and leaves its areas as its definition says; here stands what
 -- that is worth, over steps (Step), their order (Order), pairs (Core), lead-ins (Join), rounds (Rounds) and bits (Bits)
--- alone. The crate spec_laws proves each demand as one value (DemandsMet), the crate loops_framing that of the
--- program's input.
+-- alone, and that line 10 refuses nothing (Retired). The crate spec_laws proves each demand as one value (DemandsMet),
+-- the crate loops_framing that of the program's input.
 use Prim.Native.Nat.{ℕ, _+_, _*_, _^_, _≤_, _<_}
 use mathlib.Core.Path.{_≡_}
 use mathlib.Core.Bool.{Bool, true, false}
@@ -29,6 +29,7 @@ use Rattle.spec.specs.Calls.{pairedLines, pairedAnswer, pairedArea, pair
 use Rattle.spec.specs.Rounds.{IsPart, Settles, Needs}
 use Rattle.spec.specs.Bits.{Within, Gathered}
 use Rattle.spec.specs.Loops.{loopsLines, Looped, LeadIn, checkLines, checkAnswer}
+use Rattle.spec.specs.Retired.{unsettledLines}
 use Rattle.spec.specs.Fault.{faultLines, faultAnswer}
 use Rattle.spec.specs.Notation.{Items, Text, Wrong, planOf, sizeOf, nestingOf}
 use Rattle.spec.specs.WriteOut.{itemsOf, textLine, nestingLine, textFault}
@@ -101,15 +102,14 @@ pub record Exact (c v w : List ℕ) (o : Option ℕ) : Type 0 where
   pub joined : ((l : ℕ) × (o ≡ some l)) ↔ ((u : List ℕ) × Joins c v w u)
   pub apart : (o ≡ none) ↔ ((u : List ℕ) → ¬ Joins c v w u)
 
--- Demand 3. A loops call is refused exactly by the first line that holds, which is never line 10, and then leaves the
--- area as it was; one that is not refused answers exactly. With each joined pair comes a lead-in: it joins v to w, is a
--- normal form, has at most N(n + m) letters and fills the first L bytes of the area, which past them is as it was.
--- Apart leaves all of it as it was. A lead-in check that is not refused says yes exactly if u joins v to w.
+-- Demand 3. A loops call is refused exactly by the first line that holds, and then leaves the area as it was; one that
+-- is not refused answers exactly. With each joined pair comes a lead-in: it joins v to w, is a normal form, has at most
+-- N(n + m) letters and fills the first L bytes of the area, which past them is as it was. Apart leaves all of it as it
+-- was. A lead-in check that is not refused says yes exactly if u joins v to w.
 pub record Demand3 : Type 0 where
   pub refused-exactly : {c v w area after : List ℕ} {a : Answer DecidedLoops} → Looped c v w area a after → (l : Line)
       → (a ≡ refused l) ↔ FirstHolds l (loopsLines c v w area)
   pub refused-untouched : {c v w area after : List ℕ} {l : Line} → Looped c v w area (refused l) after → after ≡ area
-  pub settled : (c v w area : List ℕ) (p i : ℕ) → ¬ FirstHolds (line 10 p i) (loopsLines c v w area)
   pub loops : {c v w area after : List ℕ} {d : DecidedLoops} → Looped c v w area (given d) after
       → Exact c v w (d .lead-in)
   pub lead-in : {c v w area after : List ℕ} {d : DecidedLoops} {l : ℕ} → Looped c v w area (given d) after
@@ -202,13 +202,21 @@ pub record FramingDemand : Type 0 where
       → (wellFramed s ≡ true) × (c ≡ catalogueOf s) × (v ≡ plan1Of s) × (w ≡ plan2Of s)
 
 -- The program. What it prints to an input that is not refused says joined exactly if some u joins the two plans; the
--- number behind it is that of the letters in the core of either. Line 10 refuses no input.
+-- number behind it is that of the letters in the core of either.
 pub record ProgramDemand : Type 0 where
   pub verdict : (s text : List ℕ) (o : Option ℕ) → programAnswer s ≡ given o → Printed (programAnswer s) text
       → ((l : ℕ) × Printed (given (some l)) text) ↔ ((u : List ℕ) × Joins (catalogueOf s) (plan1Of s) (plan2Of s) u)
   pub either-core : (s : List ℕ) (l : ℕ) → programAnswer s ≡ given (some l)
       → (l ≡ length (coreForm (catalogueOf s) (plan1Of s))) × (l ≡ length (coreForm (catalogueOf s) (plan2Of s)))
-  pub settled : (c v w : List ℕ) (p i : ℕ) → ¬ FirstHolds (line 10 p i) (programLines c v w)
+
+-- Line 10. Where the lines of a catalogue and of two plans let these pass, no part of either core is unsettled after N
+-- rounds. So no bytes as catalogue and plans are refused by line 10, neither in a loops call nor by the program.
+pub record RetiredDemand : Type 0 where
+  pub settled : (c v w : List ℕ)
+      → NoneHolds (catalogueLines c ++ planLines 1 planLimit (commands c) v ++ planLines 2 planLimit (commands c) w)
+      → NoneHolds (unsettledLines c v w)
+  pub loops : (c v w area : List ℕ) (p i : ℕ) → ¬ FirstHolds (line 10 p i) (loopsLines c v w area)
+  pub program : (c v w : List ℕ) (p i : ℕ) → ¬ FirstHolds (line 10 p i) (programLines c v w)
 
 -- What the manual says of all plans: with at most 24 commands each differs from its undo, and all shortest plans of
 -- one effect differ by swaps alone.

@@ -15,6 +15,7 @@ pub mod Pairs
 pub mod Calls
 pub mod Rounds
 pub mod Bits
+pub mod Retired
 pub mod Loops
 pub mod Fault
 pub mod Notation

@@ -2,15 +2,12 @@
 -- answer, and the final bytes of its areas. Only the lead-in of two joined loops is left free.
 use Prim.Native.Nat.{ℕ, _+_, _*_, _≤_}
 use mathlib.Core.Path.{_≡_}
-use mathlib.Core.Bool.{Bool, true, false, not, _||_}
+use mathlib.Core.Bool.{true, false}
 use mathlib.Core.List.{List, [], _∷_, _++_}
 use mathlib.Core.Option.{Option, none, some}
 use lib.ListN.{length, drop}
-use Rattle.spec.specs.Table.{Line, line, holds, firstLine, Answer, refused, given, orElse}
+use Rattle.spec.specs.Table.{Line, firstLine, Answer, refused, given, orElse}
 use Rattle.theory_words.specs.Alike.{alike?}
-use Rattle.theory_conjugacy.specs.Core.{core}
-use Rattle.theory_conjugacy.specs.Part.{apexes, part}
-use Rattle.theory_conjugacy.specs.Settle.{split, settled}
 use Rattle.theory_conjugacy.specs.Decision.{joined?}
 use Rattle.spec.specs.Catalogue.{commands, catalogueLines}
 use Rattle.spec.specs.Plan.{planLines}
@@ -18,26 +15,10 @@ use Rattle.spec.specs.Letters.{letters, alphabet, normalForm}
 use Rattle.spec.specs.Join.{Joins}
 use Rattle.spec.specs.Calls.{planLimit, areaLine, areaAfter}
 use Rattle.spec.specs.Rounds.{loopsRounds}
+use Rattle.spec.specs.Retired.{unsettledLine}
 use Rattle.spec.specs.Answers.{DecidedLoops, CheckedLeadIn}
 
 -- Loops
-
-unfoldable pub isEmpty : List ℕ → Bool
-isEmpty [] = true
-isEmpty (b ∷ v) = false
-
--- after N rounds some part of x, among those with these apexes, still has a letter before its apex letters
-unfoldable pub unsettled : List ℕ → List ℕ → List ℕ → Bool
-unsettled c [] x = false
-unsettled c (m ∷ ms) x =
-    not (isEmpty (split (alphabet c) m [] (settled (alphabet c) m (commands c) (part (alphabet c) m x)) .0))
-    || unsettled c ms x
-
--- line 10: a part of the core of plan p is unsettled after N rounds
-abbrev pub unsettledLine : ℕ → List ℕ → List ℕ → Option Line
-unsettledLine p c v =
-    let x = core (alphabet c) (letters v) in
-    holds (unsettled c (apexes (alphabet c) x) x) (line 10 p 0)
 
 -- the room of a lead-in: N(n + m)
 abbrev pub leadInRoom : List ℕ → List ℕ → List ℕ → ℕ

@@ -11,7 +11,7 @@ use Rattle.spec.specs.Catalogue.{commands, catalogueLines}
 use Rattle.spec.specs.Plan.{planLines}
 use Rattle.spec.specs.Letters.{letters, alphabet}
 use Rattle.spec.specs.Calls.{planLimit, coreForm}
-use Rattle.spec.specs.Loops.{unsettledLine}
+use Rattle.spec.specs.Retired.{unsettledLine}
 use Rattle.spec.specs.Framing.{wellFramed, catalogueOf, plan1Of, plan2Of}
 
 -- the lines that can refuse one plan; the program's own areas are large enough, so line 9 is not among them

@@ -33,7 +33,8 @@ use Rattle.spec.specs.Pairs.{partner, readByte, readFrom, reading}
 use Rattle.spec.specs.Calls.{coreForm}
 use Rattle.spec.specs.Join.{Joins}
 use Rattle.spec.specs.Rounds.{loopsRounds}
-use Rattle.spec.specs.Loops.{isEmpty, unsettled, leadInRoom, loopsLines, apart, joined}
+use Rattle.spec.specs.Retired.{isEmpty, unsettled}
+use Rattle.spec.specs.Loops.{leadInRoom, loopsLines, apart, joined}
 use Rattle.spec.specs.Loops.{checkAnswer, checkArea0, checkArea1}
 use Rattle.spec_laws.specs.DemandsMet.{demand-3}
 use Rattle.spec.specs.Cases.{K, undo1, undo2, room, Yields, StarredCases}

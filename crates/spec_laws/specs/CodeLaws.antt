@@ -21,7 +21,8 @@ use Rattle.spec.specs.Answers.{toldWritten, DecidedLoops}
 use Rattle.spec.specs.Calls.{planLimit, areaLine, normalFormLines, normalFormAnswer, coreForm, coreAnswer}
 use Rattle.spec_laws.specs.CallLaws.{answer-given, few-commands}
 use Rattle.spec_laws.specs.LoopLaws.{lead-in-same}
-use Rattle.spec.specs.Loops.{leadInRoom, leadInLimit, unsettledLine, loopsLines, Looped, refuses, apart, joined}
+use Rattle.spec.specs.Retired.{unsettledLine}
+use Rattle.spec.specs.Loops.{leadInRoom, leadInLimit, loopsLines, Looped, refuses, apart, joined}
 
 -- a plan z that is written, no longer than v
 written-length : (o : Option Line) (v z : List ℕ) → length z ≤ length v → {r : Written} (l : ℕ)

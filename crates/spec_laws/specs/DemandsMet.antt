@@ -29,7 +29,7 @@ use Rattle.spec_laws.specs.SearchLaws.{given-not}
 use Rattle.spec.specs.Step.{Equal}
 use Rattle.spec.specs.Demands.{Demand1, Demand2, Demand3, Shortest, Exact, IsCore}
 use Rattle.spec.specs.Demands.{CatalogueDemand, PairsDemand, CoreDemand, RoundsDemand, FaultDemand, ProgramDemand}
-use Rattle.spec.specs.Demands.{SetTestDemand, PlansDemand}
+use Rattle.spec.specs.Demands.{SetTestDemand, RetiredDemand, PlansDemand}
 use Rattle.spec.specs.Calls.{planLimit, areaLine, areaAfter, normalFormLines, normalFormAnswer, normalFormArea}
 use Rattle.spec.specs.Calls.{catalogueAnswer, catalogueTable, coreForm, coreAnswer, coreArea, equalLines, equalAnswer}
 use Rattle.spec.specs.Calls.{pairedLines, pairedCounts, pairedAnswer, pairedArea, pairedNumbers}
@@ -39,7 +39,7 @@ use Rattle.spec_laws.specs.ReadingLaws.{numbers-length, accounts}
 use Rattle.spec_laws.specs.PairedLaws.{form-few, form-passes, paired-refused, paired-none}
 use Rattle.spec.specs.Loops.{leadInRoom, loopsLines, Looped, refuses, apart, joined, LeadIn}
 use Rattle.spec.specs.Loops.{checkLines, checkResult, checkAnswer}
-use Rattle.spec_laws.specs.UnsettledLaws.{never-ten}
+use Rattle.spec_laws.specs.RetiredLaws.{plans-settled, never-ten}
 use Rattle.spec.specs.Bits.{Within, Gathered}
 use Rattle.spec_laws.specs.BitsLaws.{gathered-once, gathered-fits, share-none}
 use Rattle.spec_laws.specs.GatherLaws.{gathered-some}
@@ -199,11 +199,6 @@ loops-refused {c} {v} {w} {area} (joined e d u) l = (
 refusal-untouched : {c v w area after : List ℕ} {l : Line} → Looped c v w area (refused l) after → after ≡ area
 refusal-untouched (refuses e) = refl
 
-loops-settled : (c v w area : List ℕ) (p i : ℕ) → ¬ FirstHolds (line 10 p i) (loopsLines c v w area)
-loops-settled c v w area p i =
-    never-ten c v w (areaLine 0 (leadInRoom c v w) area ∷ []) p i
-    (holds-up-to 9 (line 9 0 0) (omega arith, omega arith, omega arith) (ltb (length area) (leadInRoom c v w)), tt)
-
 apart-untouched : {c v w area after : List ℕ} {d : DecidedLoops} → Looped c v w area (given d) after
     → d .lead-in ≡ none → after ≡ area
 apart-untouched (apart e d) q = refl
@@ -263,7 +258,6 @@ demand-3 =
     record {
       refused-exactly = loops-refused;
       refused-untouched = refusal-untouched;
-      settled = loops-settled;
       loops = loops-demand;
       lead-in = lead-in-demand;
       apart-untouched = apart-untouched;
@@ -325,12 +319,21 @@ demand-fault =
 
 -- The program
 
-program-settled : (c v w : List ℕ) (p i : ℕ) → ¬ FirstHolds (line 10 p i) (programLines c v w)
-program-settled c v w p i = never-ten c v w [] p i tt
-
 pub demand-program : ProgramDemand
-demand-program =
-    record { verdict = verdict-printed; either-core = verdict-cores; settled = program-settled }
+demand-program = record { verdict = verdict-printed; either-core = verdict-cores }
+
+-- Line 10
+
+loops-settled : (c v w area : List ℕ) (p i : ℕ) → ¬ FirstHolds (line 10 p i) (loopsLines c v w area)
+loops-settled c v w area =
+    never-ten c v w (areaLine 0 (leadInRoom c v w) area ∷ [])
+    (holds-up-to 9 (line 9 0 0) (omega arith, omega arith, omega arith) (ltb (length area) (leadInRoom c v w)), tt)
+
+program-settled : (c v w : List ℕ) (p i : ℕ) → ¬ FirstHolds (line 10 p i) (programLines c v w)
+program-settled c v w = never-ten c v w [] tt
+
+pub demand-retired : RetiredDemand
+demand-retired = record { settled = plans-settled; loops = loops-settled; program = program-settled }
 
 -- What the manual says of all plans
 

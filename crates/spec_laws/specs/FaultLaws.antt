@@ -1,5 +1,5 @@
 -- Laws of the fault call: a fault is what refuses a call, and where there is none only an area can.
-use Prim.Native.Nat.{ℕ, _+_, _≤_}
+use Prim.Native.Nat.{ℕ, _+_}
 use mathlib.Core.Path.{_≡_, refl, sym, _∙_, ap}
 use mathlib.Core.Bool.{Bool, true, false}
 use mathlib.Core.List.{List, [], _∷_, _++_}
@@ -7,18 +7,19 @@ use mathlib.Core.Option.{Option, none, some}
 use native.Mathlib.Omega.{arith}
 use lib.ListN.{length}
 use lib.Dec.{ltb}
-use Rattle.theory_words.specs.All.{All, all-append}
+use Rattle.theory_words.specs.All.{all-append}
 use Rattle.spec.specs.Table.{Line, line, holds, firstOf, firstLine}
 use Rattle.spec_laws.specs.TableLaws.{first-early, first-late, first-left, first-holds, none-left}
 use Rattle.spec_laws.specs.TableLaws.{some-same, none-some}
-use Rattle.spec_laws.specs.LineLaws.{UpTo, Numbered, catalogue-up-to, plan-up-to, first-up-to}
+use Rattle.spec_laws.specs.LineLaws.{UpTo, Numbered, plan-up-to, two-up-to, first-up-to}
 use Rattle.spec.specs.Catalogue.{commands, catalogueLines}
 use Rattle.spec.specs.Plan.{planLines}
 use Rattle.spec.specs.Calls.{planLimit, areaLine, normalFormLines, equalLines}
 use Rattle.spec_laws.specs.CallLaws.{few-commands}
-use Rattle.spec.specs.Loops.{leadInRoom, leadInLimit, unsettledLine, loopsLines, checkLines}
+use Rattle.spec.specs.Retired.{unsettledLine}
+use Rattle.spec.specs.Loops.{leadInRoom, leadInLimit, loopsLines, checkLines}
 use Rattle.spec_laws.specs.LoopLaws.{two-pass}
-use Rattle.spec_laws.specs.UnsettledLaws.{never-unsettled}
+use Rattle.spec_laws.specs.RetiredLaws.{never-unsettled}
 use Rattle.spec.specs.Fault.{faultLines, faultAnswer}
 use Rattle.spec.specs.Demands.{Explains}
 
@@ -105,13 +106,6 @@ module _ (c : List ℕ) where
   pub fault-numbered : (v w u : List ℕ) (l : Line) → faultAnswer c v w u ≡ some l → Numbered 8 l
   fault-numbered v w u l e =
       first-up-to 8 (faultLines c v w u)
-      (all-append (UpTo 8) (two v w) (planLines 3 leadInLimit n u)
-      (all-append (UpTo 8) (one v) (planLines 2 planLimit n w)
-      (all-append (UpTo 8) (catalogueLines c) (planLines 1 planLimit n v) (catalogue-up-to 8 (omega arith) c)
-      (plan 1 (omega arith) planLimit v)) (plan 2 (omega arith) planLimit w)) (plan 3 (omega arith) leadInLimit u)) e
-    where
-      n : ℕ
-      n = commands c
-
-      plan : (p : ℕ) → p ≤ 3 → (limit : ℕ) (x : List ℕ) → All (UpTo 8) (planLines p limit n x)
-      plan p h limit x = plan-up-to 8 p (omega arith) h limit n x
+      (all-append (UpTo 8) (two v w) (planLines 3 leadInLimit (commands c) u)
+      (two-up-to 8 (omega arith) planLimit c v w)
+      (plan-up-to 8 3 (omega arith) (omega arith) leadInLimit (commands c) u)) e

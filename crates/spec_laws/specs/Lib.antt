@@ -20,7 +20,7 @@ pub mod CoreFormLaws
 pub mod CallLaws
 pub mod PairedLaws
 pub mod LoopLaws
-pub mod UnsettledLaws
+pub mod RetiredLaws
 pub mod SettlesLaws
 pub mod RoundsLaws
 pub mod BitsLaws

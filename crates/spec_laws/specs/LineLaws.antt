@@ -2,12 +2,12 @@
 use Prim.Native.Nat.{ℕ, _+_, _*_, _≤_}
 use mathlib.Core.Path.{_≡_, subst}
 use mathlib.Core.Bool.{Bool, true, false, not, _||_}
-use mathlib.Core.List.{List, [], _∷_}
+use mathlib.Core.List.{List, [], _∷_, _++_}
 use mathlib.Core.Option.{Option, none, some}
 use native.Mathlib.Omega.{arith}
 use lib.ListN.{length}
 use lib.Dec.{ltb, eqb}
-use Rattle.theory_words.specs.All.{All}
+use Rattle.theory_words.specs.All.{All, all-append}
 use Rattle.spec.specs.Table.{Line, line, holds, firstOf, lineAt, firstLine}
 use Rattle.spec_laws.specs.TableLaws.{some-same, none-some}
 use Rattle.spec.specs.Catalogue.{commands, records, headPlace, commandPlace, nextPlace, head, command, next, ends}
@@ -41,7 +41,7 @@ plan-up-to k p h i limit n v = (
   (found-up-to k 8 p (λ a. a) (omega arith) h i (firstBad n v), tt),
 )
 
-pub catalogue-up-to : (k : ℕ) → 6 ≤ k → (c : List ℕ) → All (UpTo k) (catalogueLines c)
+catalogue-up-to : (k : ℕ) → 6 ≤ k → (c : List ℕ) → All (UpTo k) (catalogueLines c)
 catalogue-up-to k h c = (size, (count, (or-up-to k (headLine c) (nextLine c) heads nexts, (named, (endless, (own, tt))))))
   where
     found : (n : ℕ) (f : ℕ → ℕ) (o : Option ℕ) → 1 ≤ n → n ≤ 6 → UpTo k (lineAt n 0 f o)
@@ -77,6 +77,16 @@ catalogue-up-to k h c = (size, (count, (or-up-to k (headLine c) (nextLine c) hea
     own =
         let o = firstOf (λ a. stands a (chain c a)) (commands c) 1 in
         found 6 headPlace o (omega arith) (omega arith)
+
+-- the lines of a catalogue and two plans
+pub two-up-to : (k : ℕ) → 8 ≤ k → (limit : ℕ) (c v w : List ℕ)
+    → All (UpTo k) (catalogueLines c ++ planLines 1 limit (commands c) v ++ planLines 2 limit (commands c) w)
+two-up-to k h limit c v w =
+    let n = commands c in
+    all-append (UpTo k) (catalogueLines c ++ planLines 1 limit n v) (planLines 2 limit n w)
+    (all-append (UpTo k) (catalogueLines c) (planLines 1 limit n v) (catalogue-up-to k (omega arith) c)
+    (plan-up-to k 1 h (omega arith) limit n v))
+    (plan-up-to k 2 h (omega arith) limit n w)
 
 pub first-up-to : (k : ℕ) {l : Line} (ls : List (Option Line)) → All (UpTo k) ls → firstLine ls ≡ some l → Numbered k l
 first-up-to k [] h e = absurd (none-some e)

@@ -21,7 +21,8 @@ use Rattle.spec_laws.specs.StepLaws.{kept}
 use Rattle.spec.specs.Answers.{DecidedLoops}
 use Rattle.spec.specs.Calls.{planLimit, areaLine}
 use Rattle.spec_laws.specs.CallLaws.{answer-given}
-use Rattle.spec.specs.Loops.{leadInRoom, unsettledLine, loopsLines, leadInLimit, checkLines}
+use Rattle.spec.specs.Retired.{unsettledLine}
+use Rattle.spec.specs.Loops.{leadInRoom, loopsLines, leadInLimit, checkLines}
 
 -- two plans that no line refuses
 pub two-pass : (c v w : List ℕ) (ls : List (Option Line))

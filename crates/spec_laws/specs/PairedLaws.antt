@@ -12,7 +12,7 @@ use lib.Dec.{ltb}
 use borrow.Author.Tests.{le-ltb}
 use Rattle.spec.specs.Table.{Line, line, holds, firstLine, NoneHolds, FirstHolds}
 use Rattle.spec_laws.specs.TableLaws.{first-early, first-late, first-holds, none-holds, none-left, none-right}
-use Rattle.spec_laws.specs.TableLaws.{some-same, none-some}
+use Rattle.spec_laws.specs.TableLaws.{left-out, some-same, none-some}
 use Rattle.spec.specs.Catalogue.{commands, catalogueLines}
 use Rattle.spec.specs.Plan.{planLines, Passing}
 use Rattle.spec_laws.specs.PlanLaws.{lines-pass}
@@ -58,12 +58,6 @@ module _ (c v area pairs : List ℕ) where
   -- with room for the pairs of the longest plan, the lines are those of the normal form alone
   pub paired-alone : planLimit ≤ length pairs
       → firstLine (pairedLines c v area pairs) ≡ firstLine (normalFormLines c v area)
-  paired-alone h = go (firstLine (normalFormLines c v area)) refl
-    where
-      go : (o : Option Line) → firstLine (normalFormLines c v area) ≡ o
-          → firstLine (pairedLines c v area pairs) ≡ firstLine (normalFormLines c v area)
-      go (some l) e = first-early (normalFormLines c v area) (pairsLine (length v) pairs ∷ []) e ∙ sym e
-      go none e =
-          let s : firstLine (pairsLine (length v) pairs ∷ []) ≡ none =
-          rw (le-ltb (length pairs) (length v) (omega (arith, form-passes c v area e .0))) in
-          first-late (normalFormLines c v area) (pairsLine (length v) pairs ∷ []) e ∙ s ∙ sym e
+  paired-alone h =
+      left-out (normalFormLines c v area) (pairsLine (length v) pairs ∷ [])
+      (λ e. rw (le-ltb (length pairs) (length v) (omega (arith, form-passes c v area e .0))))

@@ -46,6 +46,13 @@ first-left [] ys n e = absurd (none-some (sym n ∙ e))
 first-left (none ∷ xs) ys n e = first-left xs ys n e
 first-left (some k ∷ xs) ys n e = e
 
+-- lines can be left out at the end if none of them holds where none before them does
+pub left-out : (xs ys : List (Option Line)) → (firstLine xs ≡ none → firstLine ys ≡ none)
+    → firstLine (xs ++ ys) ≡ firstLine xs
+left-out [] ys h = h refl
+left-out (none ∷ xs) ys h = left-out xs ys h
+left-out (some k ∷ xs) ys h = refl
+
 pub none-holds : (ls : List (Option Line)) → (firstLine ls ≡ none) ↔ NoneHolds ls
 none-holds [] = (λ e. tt, λ n. refl)
 none-holds (none ∷ ls) = (λ e. (refl, none-holds ls .0 e), λ n. none-holds ls .1 (n .1))

@@ -18,7 +18,7 @@ use Rattle.spec.specs.Join.{Joins}
 use Rattle.spec.specs.Calls.{coreForm}
 use Rattle.spec_laws.specs.TableLaws.{none-some}
 use Rattle.spec_laws.specs.CallLaws.{answer-given}
-use Rattle.spec.specs.Loops.{unsettledLine}
+use Rattle.spec.specs.Retired.{unsettledLine}
 use Rattle.spec_laws.specs.LoopLaws.{two-pass, some-joins}
 use Rattle.spec_laws.specs.CoreFormLaws.{cores-long}
 use Rattle.spec.specs.Framing.{wellFramed, catalogueOf, plan1Of, plan2Of}

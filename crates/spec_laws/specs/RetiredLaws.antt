@@ -1,0 +1,75 @@
+-- Line 10 of the manual's table never holds: every part of a core is settled after N rounds. So the lines before it
+-- refuse the same without it, and no call is refused by it.
+use Prim.Native.Nat.{ℕ, _≤_}
+use mathlib.Core.Path.{_≡_, refl, sym, _∙_}
+use mathlib.Core.Bool.{true, false}
+use mathlib.Core.List.{List, [], _∷_, _++_, List·Memᴰ·head, List·Memᴰ·tail}
+use mathlib.Core.Option.{Option, none, some}
+use native.Mathlib.Omega.{arith}
+use Rattle.theory_words.specs.All.{All, all-append}
+use Rattle.theory_conjugacy.specs.Core.{core}
+use Rattle.theory_conjugacy.specs.CoreLaws.{core-all}
+use Rattle.theory_conjugacy.specs.Part.{apexes}
+use Rattle.theory_conjugacy.specs.AscendingLaws.{Within}
+use Rattle.theory_conjugacy.specs.CommandLaws.{all-occurs}
+use Rattle.theory_conjugacy.specs.PartLaws.{part-bounded}
+use Rattle.theory_conjugacy.specs.RoundLaws.{part-quiet}
+use Rattle.spec.specs.Table.{Line, line, firstLine, NoneHolds, FirstHolds}
+use Rattle.spec_laws.specs.TableLaws.{left-out, none-left, none-holds, first-holds}
+use Rattle.spec_laws.specs.LineLaws.{UpTo, two-up-to, first-up-to}
+use Rattle.spec.specs.Catalogue.{commands, catalogueLines}
+use Rattle.spec.specs.Plan.{isCommand, Passing, planLines}
+use Rattle.spec.specs.Byte.{commandOf}
+use Rattle.spec.specs.Letters.{letters, alphabet}
+use Rattle.spec.specs.Retired.{isEmpty, unsettled, unsettledLine, unsettledLines}
+use Rattle.spec.specs.Calls.{planLimit}
+use Rattle.spec_laws.specs.LettersLaws.{commands-range, letters-commands}
+use Rattle.spec_laws.specs.CallLaws.{few-commands}
+use Rattle.spec_laws.specs.LoopLaws.{two-pass}
+
+module _ (c x : List ℕ) (h : All (λ a. (1 ≤ commandOf a) × (commandOf a ≤ commands c)) x) where
+  none-unsettled : (ms : List ℕ) → Within ms (apexes (alphabet c) x) → unsettled c ms x ≡ false
+  unfolding unsettled isEmpty
+  none-unsettled [] f = refl
+  none-unsettled (m ∷ ms) f =
+      let n = commands c in
+      let l = part-bounded (alphabet c) n x (all-occurs (alphabet c) (λ k. (1 ≤ k) × (k ≤ n)) x h) m in
+      rw (part-quiet (alphabet c) m x (f m (List·Memᴰ·head refl)) n l)
+      (none-unsettled ms (λ k i. f k (List·Memᴰ·tail i)))
+
+pub never-unsettled : (p : ℕ) (c v : List ℕ) → commands c ≤ 24 → Passing (commands c) v → unsettledLine p c v ≡ none
+never-unsettled p c v l h =
+    let n = commands c in
+    let x = core (alphabet c) (letters v) in
+    let k = core-all (alphabet c) (λ b. isCommand n b ≡ true) (letters v) (letters-commands n v h) .1 in
+    rw (none-unsettled c x (commands-range n x l k) (apexes (alphabet c) x) (λ j i. i))
+
+module _ (c v w : List ℕ) where
+  -- the lines of the catalogue and of the plans
+  abbrev plans : List (Option Line)
+  plans = catalogueLines c ++ planLines 1 planLimit (commands c) v ++ planLines 2 planLimit (commands c) w
+
+  both-settled : firstLine plans ≡ none → firstLine (unsettledLines c v w) ≡ none
+  both-settled e =
+      let n = commands c in
+      let (hv, hw) = two-pass c v w [] e in
+      let k = few-commands c
+      (none-left (catalogueLines c) (planLines 1 planLimit n v)
+      (none-left (catalogueLines c ++ planLines 1 planLimit n v) (planLines 2 planLimit n w) e)) in
+      rw (never-unsettled 1 c v k hv, never-unsettled 2 c w k hw)
+
+  pub plans-settled : NoneHolds plans → NoneHolds (unsettledLines c v w)
+  plans-settled n = none-holds (unsettledLines c v w) .0 (both-settled (none-holds plans .1 n))
+
+  -- with any lines ls between
+  module _ (ls : List (Option Line)) where
+    retired-same : firstLine (plans ++ ls ++ unsettledLines c v w) ≡ firstLine (plans ++ ls)
+    retired-same = left-out (plans ++ ls) (unsettledLines c v w) (λ e. both-settled (none-left plans ls e))
+
+    -- line 10 refuses no two plans
+    pub never-ten : All (UpTo 9) ls → (p i : ℕ) → ¬ FirstHolds (line 10 p i) (plans ++ ls ++ unsettledLines c v w)
+    never-ten h p i f =
+        let e : firstLine (plans ++ ls) ≡ some (line 10 p i) =
+        sym retired-same ∙ first-holds (plans ++ ls ++ unsettledLines c v w) (line 10 p i) .1 f in
+        let k = all-append (UpTo 9) plans ls (two-up-to 9 (omega arith) planLimit c v w) h in
+        omega (arith, first-up-to 9 (plans ++ ls) k e .1)
