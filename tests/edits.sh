@@ -89,9 +89,14 @@ apply() { # EDIT FOLDER
   if [ "$blocks" = 0 ]; then echo "the edit changes no code"; return 1; fi
 }
 
-# Whether the program ran and printed what was expected, or stopped where that is expected.
+# Whether the program ran and printed what was expected, or stopped or ran on where that is expected.
 as_expected() { # WRONG SAID
   if [ "$1" = stops ]; then grep -q '^undefined behavior' "$2"; return; fi
+  if [ "$1" = 'runs on' ]; then
+    grep -q '^the run did not finish within [0-9]* steps' "$2" || return 1
+    [ "$(grep -c '^the program was killed by signal ' "$2")" = 3 ]
+    return
+  fi
   if grep '^FAIL' "$2" | grep -qv '^FAIL: the interpreter failed, with status 83$'; then return 1; fi
   if grep -q '^FAIL' "$2" && ! grep -q '^the run did not finish within [0-9]* steps' "$2"; then return 1; fi
   [ "$(grep -c '^ok: the native program ' "$2")" = 3 ]

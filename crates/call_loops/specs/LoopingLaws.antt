@@ -1,6 +1,6 @@
 -- The loops call goes through its checks, then line 9, and line 10 never holds.
 use Prim.Native.Nat.{ℕ, _+_, _*_, _<_, _≤_}
-use mathlib.Core.Path.{_≡_, refl, sym, _∙_, ap, subst}
+use mathlib.Core.Path.{_≡_, sym, _∙_, ap, subst}
 use mathlib.Core.List.{List, [], _∷_}
 use mathlib.Core.Option.{Option, none}
 use native.Mathlib.Omega.{arith}
@@ -14,7 +14,7 @@ use Rattle.input_catalogue.specs.declared.Checked.{Checked}
 use Rattle.input_catalogue.specs.declared.Checked.the-variants.{Refused, Passed}
 use Rattle.conjugacy_of_parts.specs.declared.Outcome.{Outcome}
 use Rattle.conjugacy_by_cores.specs.Join as Join
-use Rattle.conjugacy_by_cores.specs.Join.{Plans, PlansOutcome}
+use Rattle.conjugacy_by_cores.specs.Join.{Plans, PlansRoom, PlansOutcome}
 use Rattle.spec_laws.specs.RetiredLaws.{never-unsettled}
 use Rattle.input_checks.specs.Entry.{TwoPlans, twoLines, SameRefusal}
 use Rattle.input_checks.specs.EntryLaws.{entered-none, entered-some, entered-commands}
@@ -35,10 +35,8 @@ module _ {c v w : List ℕ} {rows : List (List ℕ)} {r : Checked} (d : TwoPlans
       (refuses (first-early (twoLines c v w) last (entered-some d e)))
 
   module _ {n : ℕ} (e : r ≡ Passed n) where
-    pub loops-plans : Plans c rows v w n
-    loops-plans =
-        let p = d .passed (entered-none d e) in
-        record { first = p .0; second = p .1; many = entered-commands d e }
+    pub loops-plans : Plans c rows v w
+    loops-plans = let p = d .passed (entered-none d e) in record { first = p .0; second = p .1 }
 
     -- the room that is asked for is a small number
     pub loops-fits : n * (length v + length w) ≤ 49152
@@ -47,23 +45,25 @@ module _ {c v w : List ℕ} {rows : List (List ℕ)} {r : Checked} (d : TwoPlans
         let h : n * (length v + length w) ≤ n * 2048 = mul-le-mul-left n (omega (arith, p .0 .short, p .1 .short)) in
         omega (arith, entered-commands d e, p .0 .few)
 
-    room : {m : ℕ} → n * (length v + length w) ≡ m → leadInRoom c v w ≡ m
-    room h = ap (λ k. k * (length v + length w)) (sym (entered-commands d e)) ∙ h
+    room : leadInRoom c v w ≡ n * (length v + length w)
+    room = ap (λ k. k * (length v + length w)) (sym (entered-commands d e))
+
+    pub loops-room : n * (length v + length w) ≤ length area → PlansRoom c v w n area
+    loops-room h = record { many = entered-commands d e; form = rw room h }
 
     pub loops-small : {l : Line} → length area < n * (length v + length w) → l ≡ line 9 0 0
         → Looped c v w area (refused l) area
     loops-small {l} h k =
-        let q : length area < leadInRoom c v w = rw (room refl) h in
+        let q : length area < leadInRoom c v w = rw room h in
         subst (λ x. Looped c v w area (refused x) area) (sym k)
         (refuses (first-late (twoLines c v w) last (entered-none d e) ∙ rw (lt-ltb (length area) (leadInRoom c v w) q)))
 
     pub loops-none : n * (length v + length w) ≤ length area → firstLine (loopsLines c v w area) ≡ none
     loops-none h =
         let p = d .passed (entered-none d e) in
-        let q : leadInRoom c v w ≤ length area = rw (room refl) h in
         first-late (twoLines c v w) last (entered-none d e)
         ∙ rw (
-          le-ltb (length area) (leadInRoom c v w) q,
+          le-ltb (length area) (leadInRoom c v w) (loops-room h .form),
           never-unsettled 1 c v (p .0 .few) (p .0 .passing),
           never-unsettled 2 c w (p .1 .few) (p .1 .passing),
         )

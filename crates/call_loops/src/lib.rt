@@ -9,8 +9,6 @@ ghost use Rattle.conjugacy_of_parts.specs.Outcomes.{toldOutcome};
 use conjugacy_of_parts::Outcome;
 use input_catalogue::Checked;
 use spec::Loops;
-use spec::Reason;
-use spec::Refusal;
 
 // A refused check, passed on untouched as the answer of the loops call.
 fn not_joined(checked: Checked) -> Loops
@@ -22,7 +20,7 @@ fn not_joined(checked: Checked) -> Loops
     }
 }
 
-// The verdict as the answer of the loops call; line 10 for a plan with an unsettled part.
+// The verdict as the answer of the loops call.
 fn verdict(outcome: Outcome) -> Loops
     ensures { λ r. ⌜ toldLoops r ≡ toldOutcome outcome ⌝ }
 {
@@ -32,11 +30,6 @@ fn verdict(outcome: Outcome) -> Loops
             rounds,
         },
         Outcome::Apart { rounds } => Loops::Apart { rounds },
-        Outcome::Unsettled(plan) => Loops::Refused(Refusal {
-            reason: Reason::Unsettled,
-            plan,
-            place: 0,
-        }),
     }
 }
 

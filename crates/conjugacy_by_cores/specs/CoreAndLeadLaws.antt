@@ -35,7 +35,7 @@ use Rattle.spec.specs.Rounds.{loopsRounds}
 use Rattle.spec.specs.Loops.{LeadIn, leadInRoom}
 use Rattle.conjugacy_of_cores.specs.Pair.{Conjugator, coresRounds}
 use Rattle.conjugacy_by_cores.specs.CoreAndLead.{CoreAndLead}
-use Rattle.conjugacy_by_cores.specs.Join.{Cores}
+use Rattle.conjugacy_by_cores.specs.Join.{Cores, wordRoom}
 use Rattle.conjugacy_by_cores.specs.ThroughLaws.{cores-joined-same, through, through-conj, through-count}
 use Rattle.conjugacy_by_cores.specs.ThroughLaws.{through-all}
 
@@ -74,7 +74,7 @@ module _ (c : List ℕ) where
 
   -- two plans
 
-  module _ {conflicts : List (List ℕ)} {v w x g y h : List ℕ} {n : ℕ} (d : Cores c conflicts v w x g y h n) where
+  module _ {conflicts : List (List ℕ)} {v w x g y h : List ℕ} (d : Cores c conflicts v w x g y h) where
     abbrev k : CoreAndLead c v x g
     k = d .first
 
@@ -124,7 +124,7 @@ module _ (c : List ℕ) where
           through-all (alphabet c) (λ b. isCommand (commands c) b ≡ true)
           (λ b e. isCommand-undone (commands c) b ∙ e) g u h (off-commands k pv .0) (q .letters) (off-commands l pw .0)
 
-      pub through-room : length t ≤ commands c * ((2 * length g + length x) + (2 * length h + length y))
+      pub through-room : length t ≤ wordRoom c x g y h
       through-room =
           let b = lead-in-bound (commands c) (length g) (length h) (length x) (2 * length g + length x)
           (2 * length h + length y) (length u) no-letters (omega arith) (omega (arith, same-length)) (q .short) in

@@ -16,14 +16,14 @@ use Rattle.spec.specs.Byte.{undone, undoOf}
 use Rattle.spec.specs.Letters.{letters, alphabet, normalForm}
 use Rattle.spec_laws.specs.LettersLaws.{letters-length, commands-passing}
 use Rattle.spec.specs.Rounds.{loopsRounds}
+use Rattle.spec.specs.Loops.{leadInRoom}
 use Rattle.long_reduction.specs.Reducing.{Given}
 use Rattle.long_form.specs.Forming.{Formable}
 use Rattle.array_row.specs.Row.{Appended}
 use Rattle.array_row.specs.RowLaws.{appended-take, appended-length}
 use Rattle.conjugacy_settled_parts.specs.PartOf.{Cyclic}
 use Rattle.conjugacy_of_parts.specs.declared.Outcome.{Outcome}
-use Rattle.conjugacy_of_parts.specs.declared.Outcome.the-variants.{Joined, Apart, Unsettled}
-use Rattle.conjugacy_of_parts.specs.Outcomes.{Stops}
+use Rattle.conjugacy_of_parts.specs.declared.Outcome.the-variants.{Joined, Apart}
 use Rattle.conjugacy_of_cores.specs.Pair.{Coreable, CoresJoined, coresRounds, CoresOutcome}
 use Rattle.input_checks.specs.Passed.{Passed}
 use Rattle.conjugacy_by_cores.specs.ThroughLaws.{through, through-count}
@@ -55,27 +55,25 @@ lead-and-cycled-fit (suc n) g x h y z =
     let f : 1 * d ≤ suc n * d = mul-le-mul-right d (omega arith) in
     omega (arith, f, mul-add (suc n) d (x + y), ap (λ m. suc n * m) e)
 
-module _ {c : List ℕ} {conflicts : List (List ℕ)} {v w x g y h : List ℕ} {n : ℕ}
-    (k : Cores c conflicts v w x g y h n) where
-  abbrev p : Plans c conflicts v w n
+module _ {c : List ℕ} {conflicts : List (List ℕ)} {v w x g y h : List ℕ}
+    (k : Cores c conflicts v w x g y h) where
+  abbrev p : Plans c conflicts v w
   p = k .plans
 
   -- the row and the way from core to core
-  module _ (row : List ℕ) (r : wordRoom n x g y h ≤ length row) where
-    lead-and-cycled-room : length g + n * (length x + length y) ≤ length row
+  module _ (row : List ℕ) (r : wordRoom c x g y h ≤ length row) where
+    lead-and-cycled-room : length g + commands c * (length x + length y) ≤ length row
     lead-and-cycled-room =
-        let z = no-letters c k in
-        let e = lead-and-cycled-fit n (length g) (length x) (length h) (length y) (λ m. z (sym (p .many) ∙ m)) in
+        let e = lead-and-cycled-fit (commands c) (length g) (length x) (length h) (length y) (no-letters c k) in
         omega (arith, e, r)
 
     pub lead-room : 0 + length g ≤ length row
     lead-room = omega (arith, lead-and-cycled-room)
 
-    pub join-coreable : {row′ : List ℕ} {at : ℕ} → Appended row 0 g row′ at → Coreable c conflicts x y n row′ at
+    pub join-coreable : {row′ : List ℕ} {at : ℕ} → Appended row 0 g row′ at → Coreable c conflicts x y row′ at
     join-coreable a = record {
       first = core-cyclic (p .first) (k .first);
       second = core-cyclic (p .second) (k .second);
-      enough = p .many;
       room =
           let l = lead-and-cycled-room in
           omega (arith, a .ends, l, appended-length a (omega (arith, a .ends, l)));
@@ -84,16 +82,15 @@ module _ {c : List ℕ} {conflicts : List (List ℕ)} {v w x g y h : List ℕ} {
     pub join-short : {row′ : List ℕ} {at end : ℕ} {row″ : List ℕ} → Appended row 0 g row′ at
         → CoresJoined c x y row′ at row″ end → end + length h ≤ length row
     join-short a j =
-        let t = through-room c k (j .conjugator) in
-        let s = subst (λ m. length (through (alphabet c) g (j .word) h) ≤ wordRoom m x g y h) (sym (p .many)) t in
+        let s = through-room c k (j .conjugator) in
         omega (arith, a .ends, j .ends, s, through-count (alphabet c) g (j .word) h, r)
 
   -- the outcome, where there is no lead-in
-  pub join-stop : (before : List ℕ) (at : ℕ) (after : List ℕ) (o : Outcome) → Stops o
-      → CoresOutcome c x y before at after o → WordOutcome c v w after o
-  join-stop before at after (Joined e m) s d = absurd s
-  join-stop before at after (Apart m) s d = (sym (cores-joined-plans c k) ∙ d .0, d .1 ∙ cores-rounds-plans c k)
-  join-stop before at after (Unsettled q) s d = d
+  pub join-stop : (before : List ℕ) (at : ℕ) (after : List ℕ) {o : Outcome} {m : ℕ}
+      → CoresOutcome c x y before at after o → o ≡ Apart m → WordOutcome c v w after o
+  join-stop before at after d e =
+      let (a, b) = subst (CoresOutcome c x y before at after) e d in
+      subst (WordOutcome c v w after) (sym e) (sym (cores-joined-plans c k) ∙ a, b ∙ cores-rounds-plans c k)
 
   -- the word in the row
   pub join-word : {row row′ row″ row‴ : List ℕ} {at end last : ℕ} → Appended row 0 g row′ at → at ≤ length row
@@ -129,38 +126,34 @@ pub word-joined : (c v w row : List ℕ) {o : Outcome} {end n : ℕ} → WordOut
     → WordJoined c v w row end × (n ≡ loopsRounds c v w)
 word-joined c v w row d e = subst (WordOutcome c v w row) e d
 
-pub word-stop : (c v w row area : List ℕ) (o : Outcome) → Stops o → WordOutcome c v w row o
+pub word-stop : (c v w row area : List ℕ) {o : Outcome} {n : ℕ} → WordOutcome c v w row o → o ≡ Apart n
     → PlansOutcome c v w area o area
-word-stop c v w row area (Joined e n) s d = absurd s
-word-stop c v w row area (Apart n) s d =
-    subst (λ i. PlansOutcome c v w area (Apart i) area) (sym (d .1)) (apart (d .0))
-word-stop c v w row area (Unsettled q) s d = absurd d
+word-stop c v w row area d e =
+    let (a, b) = subst (WordOutcome c v w row) e d in
+    subst (λ (o : Outcome). PlansOutcome c v w area o area) (sym (e ∙ ap Apart b)) (apart a)
 
-module _ {c : List ℕ} {conflicts : List (List ℕ)} {v w : List ℕ} {n : ℕ} (p : Plans c conflicts v w n)
+module _ {c : List ℕ} {conflicts : List (List ℕ)} {v w : List ℕ} (p : Plans c conflicts v w)
     {row : List ℕ} {end : ℕ} (d : WordJoined c v w row end) where
-  word-short : end ≤ n * (length v + length w)
-  word-short = subst (λ m. end ≤ m * (length v + length w)) (sym (p .many)) (d .short)
-
   pub word-fits : end ≤ length row
   word-fits = omega (arith, d .count, length-take end row)
 
   pub word-given : Given c conflicts (take end row)
   word-given =
-      let e : n * (length v + length w) ≤ 24 * (length v + length w) =
-      mul-le-mul-right (length v + length w) (omega (arith, p .many, p .first .few)) in
+      let e : leadInRoom c v w ≤ 24 * (length v + length w) =
+      mul-le-mul-right (length v + length w) (p .first .few) in
       record {
         table = p .first .table;
         few = p .first .few;
         passing = commands-passing (commands c) (take end row) (d .letters);
-        short = omega (arith, d .count, word-short, p .first .short, p .second .short);
+        short = omega (arith, d .count, d .short, p .first .short, p .second .short);
       }
 
-  pub word-formable : {area : List ℕ} → n * (length v + length w) ≤ length area
+  pub word-formable : {area : List ℕ} → leadInRoom c v w ≤ length area
       → Formable 50176 c conflicts (take end row) area
   word-formable f = record {
     given = word-given;
     short = word-given .short;
-    fits = omega (arith, d .count, word-short, letters-length (take end row));
+    fits = omega (arith, d .count, d .short, letters-length (take end row));
   }
 
   pub word-outcome : {area after : List ℕ} {r m : ℕ} → StartsWith (normalForm c (take end row)) area after r

@@ -9,7 +9,7 @@ use long_form::form;
 ghost use Prim.Native.Nat.{ℕ, _≤_};
 ghost use mathlib.Core.List.{List};
 ghost use lib.ListN.{length};
-ghost use Rattle.conjugacy_by_cores.specs.Join.{Cores, wordRoom, WordOutcome, FormRoom, FormOutcome};
+ghost use Rattle.conjugacy_by_cores.specs.Join.{Cores, wordRoom, WordOutcome, FormRoom, PlansOutcome};
 
 // Whether the plans with these cores are joined, and the lead-in as a word at the start of the row, not yet in normal
 // form.
@@ -18,20 +18,21 @@ fn lead_in_word(
     lead1: &[u8],
     core2: &[u8],
     lead2: &[u8],
-    commands: usize,
     conflicts: &[[u16; 24]; 24],
     row: &mut [u8],
 ) -> Outcome
     requires { ⌜ ((c : List ℕ) × (v : List ℕ) × (w : List ℕ)
-        × Cores c (now conflicts) v w (now core1) (now lead1) (now core2) (now lead2) commands
-        × (wordRoom commands (now core1) (now lead1) (now core2) (now lead2) ≤ length (now row))) ⌝ }
+        × Cores c (now conflicts) v w (now core1) (now lead1) (now core2) (now lead2)
+        × (wordRoom c (now core1) (now lead1) (now core2) (now lead2) ≤ length (now row))) ⌝ }
     ensures { λ r. ⌜ ((c v w : List ℕ)
         → Cores c (now (conflicts .entry)) v w (now (core1 .entry)) (now (lead1 .entry)) (now (core2 .entry))
-        (now (lead2 .entry)) commands
+        (now (lead2 .entry))
+        → wordRoom c (now (core1 .entry)) (now (lead1 .entry)) (now (core2 .entry)) (now (lead2 .entry))
+        ≤ length (now (row .entry))
         → WordOutcome c v w (now (row .exit)) r) ⌝ }
 {
     let at = append(row, 0, lead1);
-    let way = join_cores(core1, core2, commands, conflicts, row, at);
+    let way = join_cores(core1, core2, conflicts, row, at);
     let Outcome::Joined { end, rounds } = way else {
         return way;
     };
@@ -45,17 +46,19 @@ pub fn lead_in_form(
     lead1: &[u8],
     core2: &[u8],
     lead2: &[u8],
-    commands: usize,
     conflicts: &[[u16; 24]; 24],
     row: &mut [u8],
     area: &mut [u8],
 ) -> Outcome
-    requires { ⌜ FormRoom (now conflicts) (now core1) (now lead1) (now core2) (now lead2) commands
-        (length (now row)) (now area) ⌝ }
-    ensures { λ r. ⌜ FormOutcome (now (conflicts .entry)) (now (core1 .entry)) (now (lead1 .entry))
-        (now (core2 .entry)) (now (lead2 .entry)) commands (now (area .entry)) r (now (area .exit)) ⌝ }
+    requires { ⌜ ((c : List ℕ) × (v : List ℕ) × (w : List ℕ)
+        × FormRoom c (now conflicts) v w (now core1) (now lead1) (now core2) (now lead2) (length (now row))
+        (now area)) ⌝ }
+    ensures { λ r. ⌜ ((c v w : List ℕ)
+        → FormRoom c (now (conflicts .entry)) v w (now (core1 .entry)) (now (lead1 .entry)) (now (core2 .entry))
+        (now (lead2 .entry)) (length (now (row .entry))) (now (area .entry))
+        → PlansOutcome c v w (now (area .entry)) r (now (area .exit))) ⌝ }
 {
-    let way = lead_in_word(core1, lead1, core2, lead2, commands, conflicts, row);
+    let way = lead_in_word(core1, lead1, core2, lead2, conflicts, row);
     let Outcome::Joined { end, rounds } = way else {
         return way;
     };

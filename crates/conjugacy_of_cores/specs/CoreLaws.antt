@@ -14,13 +14,13 @@ use Rattle.theory_conjugacy.specs.Rounds.{most-rounds, core-rounds}
 use Rattle.conjugacy_commands.specs.Flags.{Flags}
 use Rattle.conjugacy_labels.specs.Labels.{LabelsOf}
 use Rattle.conjugacy_of_parts.specs.declared.Outcome.{Outcome}
-use Rattle.conjugacy_of_parts.specs.declared.Outcome.the-variants.{Joined, Apart, Unsettled}
+use Rattle.conjugacy_of_parts.specs.declared.Outcome.the-variants.{Joined, Apart}
 use Rattle.conjugacy_of_parts.specs.Parts.{bothRounds, PartsOutcome}
-use Rattle.conjugacy_of_cores.specs.Pair.{Flagged, Coreable, coresRounds, CoresOutcome}
+use Rattle.conjugacy_of_cores.specs.Pair.{Joinable, Coreable, coresRounds, CoresOutcome}
 use Rattle.conjugacy_of_cores.specs.ConjugatorLaws.{parts-conjugator}
 
-module _ {c : List ℕ} {conflicts : List (List ℕ)} {x y : List ℕ} {rounds : ℕ} {row : List ℕ} {at : ℕ}
-    (h : Coreable c conflicts x y rounds row at) where
+module _ {c : List ℕ} {conflicts : List (List ℕ)} {x y row : List ℕ} {at : ℕ}
+    (h : Coreable c conflicts x y row at) where
   pub cores-apart : ¬ (commands (alphabet c) x ≡ commands (alphabet c) y) → cores-joined? (alphabet c) x y ≡ false
   unfolding cores-joined?
   cores-apart n = go (alike? (commands (alphabet c) x) (commands (alphabet c) y)) refl
@@ -31,21 +31,22 @@ module _ {c : List ℕ} {conflicts : List (List ℕ)} {x y : List ℕ} {rounds :
       go false f = refl
 
   module _ (same : commands (alphabet c) x ≡ commands (alphabet c) y) where
-    pub cores-flagged : {fs names : List ℕ} → Flags (commands (alphabet c) x) fs
-        → LabelsOf (labels (alphabet c) (commands (alphabet c) x)) names
-        → Flagged c conflicts x y fs names rounds
+    pub cores-joinable : {fs names : List ℕ} → Flags (commands (alphabet c) x) fs
+        → LabelsOf (labels (alphabet c) (commands (alphabet c) x)) names → Joinable c conflicts x y fs names row at
     unfolding label
-    cores-flagged {fs} {names} f l = record {
-      two = record {
-        first = record { cyclic = h .first; labelled = l };
-        second = record {
-          cyclic = h .second;
-          labelled = subst (λ (lab : ℕ → ℕ). LabelsOf lab names) (label-same (alphabet c) x y same) l;
+    cores-joinable {fs} {names} f l = record {
+      flagged = record {
+        two = record {
+          first = record { cyclic = h .first; labelled = l };
+          second = record {
+            cyclic = h .second;
+            labelled = subst (λ (lab : ℕ → ℕ). LabelsOf lab names) (label-same (alphabet c) x y same) l;
+          };
+          same = same;
         };
-        same = same;
+        flags = f;
       };
-      flags = f;
-      enough = h .enough;
+      room = h .room;
     }
 
     decided : cores-joined? (alphabet c) x y ≡ parts-joined? (alphabet c) (apexes (alphabet c) x) x y
@@ -70,4 +71,3 @@ module _ {c : List ℕ} {conflicts : List (List ℕ)} {x y : List ℕ} {rounds :
       e ∙ all-counted,
     )
     cores-outcome after (Apart n) (d, e) = (decided ∙ d, e ∙ all-counted)
-    cores-outcome after (Unsettled p) d = d

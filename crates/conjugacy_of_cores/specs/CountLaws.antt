@@ -16,7 +16,7 @@ use Rattle.conjugacy_rounds.specs.Apexes.{apexesFrom}
 use Rattle.conjugacy_rounds.specs.ApexesLaws.{apexes-from}
 use Rattle.conjugacy_rounds.specs.Counting.{CoreOf, Counts}
 use Rattle.conjugacy_of_parts.specs.Parts.{bothRounds}
-use Rattle.conjugacy_of_cores.specs.Pair.{Flagged, Coreable, coresRounds}
+use Rattle.conjugacy_of_cores.specs.Pair.{Joinable, Coreable, coresRounds}
 
 -- room for both is room for either
 either-room : (n l m at r : ℕ) → at + n * (l + m) ≤ r → (at + n * l ≤ r) × (at + n * m ≤ r)
@@ -24,23 +24,23 @@ either-room n l m at r h = (omega (arith, mul-add n l m), omega (arith, mul-add 
 
 -- where the same commands occur
 
-module _ {c : List ℕ} {conflicts : List (List ℕ)} {x y fs labels : List ℕ} {rounds : ℕ}
-    (h : Flagged c conflicts x y fs labels rounds) {row : List ℕ} {at n : ℕ} (e : length row ≡ n)
-    (r : at + rounds * (length x + length y) ≤ n) where
-  pub flagged-first : CoreOf c conflicts x fs labels rounds row at
-  flagged-first = record {
-    core = h .two .first;
-    flags = h .flags;
-    enough = h .enough;
-    room = omega (arith, either-room rounds (length x) (length y) at n r .0);
-  }
+module _ {c : List ℕ} {conflicts : List (List ℕ)} {x y fs labels row : List ℕ} {at : ℕ}
+    (h : Joinable c conflicts x y fs labels row at) where
+  abbrev rooms : (at + Catalogue.commands c * length x ≤ length row)
+      × (at + Catalogue.commands c * length y ≤ length row)
+  rooms = either-room (Catalogue.commands c) (length x) (length y) at (length row) (h .room)
 
-  pub flagged-second : CoreOf c conflicts y fs labels rounds row at
-  flagged-second = record {
-    core = h .two .second;
-    flags = subst (λ (ks : List ℕ). Flags ks fs) (h .two .same) (h .flags);
-    enough = h .enough;
-    room = omega (arith, either-room rounds (length x) (length y) at n r .1);
+  pub joinable-as-long : {row′ : List ℕ} → length row′ ≡ length row → Joinable c conflicts x y fs labels row′ at
+  joinable-as-long e = record { flagged = h .flagged; room = omega (arith, h .room) }
+
+  pub joinable-first : CoreOf c conflicts x fs labels row at
+  joinable-first = record { core = h .flagged .two .first; flags = h .flagged .flags; room = rooms .0 }
+
+  pub joinable-second : {row′ : List ℕ} → length row′ ≡ length row → CoreOf c conflicts y fs labels row′ at
+  joinable-second e = record {
+    core = h .flagged .two .second;
+    flags = subst (λ (ks : List ℕ). Flags ks fs) (h .flagged .two .same) (h .flagged .flags);
+    room = omega (arith, rooms .1);
   }
 
 pub both-counted : (c x y ms : List ℕ) {row row′ row″ : List ℕ} {at n m : ℕ} → Counts c x ms 0 row row′ at n
@@ -49,30 +49,30 @@ both-counted c x y ms a b = omega (arith, a .count, b .count)
 
 -- whole cores
 
-core-of : {c : List ℕ} {conflicts : List (List ℕ)} {x fs names : List ℕ} {rounds : ℕ} {row : List ℕ} {at : ℕ}
-    → Cyclic c conflicts x → rounds ≡ Catalogue.commands c → at + rounds * length x ≤ length row
+core-of : {c : List ℕ} {conflicts : List (List ℕ)} {x fs names row : List ℕ} {at : ℕ}
+    → Cyclic c conflicts x → at + Catalogue.commands c * length x ≤ length row
     → Flags (commands (alphabet c) x) fs → LabelsOf (labels (alphabet c) (commands (alphabet c) x)) names
-    → CoreOf c conflicts x fs names rounds row at
+    → CoreOf c conflicts x fs names row at
 unfolding label
-core-of k e r f l = record { core = record { cyclic = k; labelled = l }; flags = f; enough = e; room = r }
+core-of k r f l = record { core = record { cyclic = k; labelled = l }; flags = f; room = r }
 
-module _ {c : List ℕ} {conflicts : List (List ℕ)} {x y : List ℕ} {rounds : ℕ} {row : List ℕ} {at : ℕ}
-    (h : Coreable c conflicts x y rounds row at) {fs names : List ℕ} where
+module _ {c : List ℕ} {conflicts : List (List ℕ)} {x y row : List ℕ} {at : ℕ}
+    (h : Coreable c conflicts x y row at) {fs names : List ℕ} where
   pub core-first : Flags (commands (alphabet c) x) fs
-      → LabelsOf (labels (alphabet c) (commands (alphabet c) x)) names → CoreOf c conflicts x fs names rounds row at
+      → LabelsOf (labels (alphabet c) (commands (alphabet c) x)) names → CoreOf c conflicts x fs names row at
   core-first =
-      core-of (h .first) (h .enough) (either-room rounds (length x) (length y) at (length row) (h .room) .0)
+      core-of (h .first) (either-room (Catalogue.commands c) (length x) (length y) at (length row) (h .room) .0)
 
   pub core-second : Flags (commands (alphabet c) y) fs
       → LabelsOf (labels (alphabet c) (commands (alphabet c) y)) names
-      → {row′ : List ℕ} → length row′ ≡ length row → CoreOf c conflicts y fs names rounds row′ at
+      → {row′ : List ℕ} → length row′ ≡ length row → CoreOf c conflicts y fs names row′ at
   core-second f l e =
-      core-of (h .second) (h .enough)
-      (omega (arith, either-room rounds (length x) (length y) at (length row) (h .room) .1)) f l
+      core-of (h .second)
+      (omega (arith, either-room (Catalogue.commands c) (length x) (length y) at (length row) (h .room) .1)) f l
 
 -- the apexes from the first command on are all
-core-counted : {c : List ℕ} {conflicts : List (List ℕ)} {x fs names : List ℕ} {rounds : ℕ} {row row′ : List ℕ}
-    {at most n : ℕ} → CoreOf c conflicts x fs names rounds row at
+core-counted : {c : List ℕ} {conflicts : List (List ℕ)} {x fs names row row′ : List ℕ}
+    {at most n : ℕ} → CoreOf c conflicts x fs names row at
     → Counts c x (apexesFrom fs names 24 0) most row row′ at n → n ≡ max most (core-rounds (alphabet c) x)
 unfolding core-rounds
 core-counted {c} {x = x} {most = most} k t =
@@ -80,15 +80,15 @@ core-counted {c} {x = x} {most = most} k t =
     (apexes-from c x (k .flags) (k .core .labelled))
 
 -- one core for both, where they are the same
-pub same-counted : {c : List ℕ} {conflicts : List (List ℕ)} {x y fs names : List ℕ} {rounds : ℕ} {row row′ : List ℕ}
-    {at n : ℕ} → CoreOf c conflicts x fs names rounds row at
+pub same-counted : {c : List ℕ} {conflicts : List (List ℕ)} {x y fs names row row′ : List ℕ}
+    {at n : ℕ} → CoreOf c conflicts x fs names row at
     → Counts c x (apexesFrom fs names 24 0) 0 row row′ at n → x ≡ y → n ≡ coresRounds c x y
 same-counted {c} k t e = omega (arith, core-counted k t, ap (core-rounds (alphabet c)) e)
 
 -- one after the other
-pub cores-counted : {c : List ℕ} {conflicts : List (List ℕ)} {x y fs gs names others : List ℕ} {rounds : ℕ}
+pub cores-counted : {c : List ℕ} {conflicts : List (List ℕ)} {x y fs gs names others : List ℕ}
     {row row′ row″ : List ℕ} {at n m : ℕ}
-    → CoreOf c conflicts x fs names rounds row at → Counts c x (apexesFrom fs names 24 0) 0 row row′ at n
-    → CoreOf c conflicts y gs others rounds row′ at → Counts c y (apexesFrom gs others 24 0) n row′ row″ at m
+    → CoreOf c conflicts x fs names row at → Counts c x (apexesFrom fs names 24 0) 0 row row′ at n
+    → CoreOf c conflicts y gs others row′ at → Counts c y (apexesFrom gs others 24 0) n row′ row″ at m
     → m ≡ coresRounds c x y
 cores-counted k t l u = omega (arith, core-counted k t, core-counted l u)

@@ -17,38 +17,39 @@ use Rattle.conjugacy_commands.specs.Flags.{Flags}
 use Rattle.conjugacy_settled_parts.specs.PartOf.{Cyclic}
 use Rattle.conjugacy_rounds.specs.Apexes.{apexAt, apexesFrom}
 use Rattle.conjugacy_of_parts.specs.declared.Outcome.{Outcome}
-use Rattle.conjugacy_of_parts.specs.declared.Outcome.the-variants.{Joined, Apart, Unsettled}
+use Rattle.conjugacy_of_parts.specs.declared.Outcome.the-variants.{Joined, Apart}
 use Rattle.conjugacy_of_parts.specs.Parts.{Two, PartsJoined, bothRounds}
 
--- two cores in which the same commands occur: the flags tell which, and the rounds are as many as commands
-pub record Flagged (c : List ℕ) (conflicts : List (List ℕ)) (core1 core2 fs labels : List ℕ) (rounds : ℕ)
-    : Type 0 where
+-- two cores in which the same commands occur: the flags tell which
+pub record Flagged (c : List ℕ) (conflicts : List (List ℕ)) (core1 core2 fs labels : List ℕ) : Type 0 where
   pub two : Two c conflicts core1 core2 labels
   pub flags : Flags (commands (alphabet c) core1) fs
-  pub enough : rounds ≡ Catalogue.commands c
+
+-- all parts: the row has room behind place `at` for their lead-ins
+pub record Joinable (c : List ℕ) (conflicts : List (List ℕ)) (core1 core2 fs labels row : List ℕ) (at : ℕ)
+    : Type 0 where
+  pub flagged : Flagged c conflicts core1 core2 fs labels
+  pub room : at + Catalogue.commands c * (length core1 + length core2) ≤ length row
 
 -- the letters of a core in the parts with these apexes
 abbrev pub partsOf : List ℕ → List ℕ → List ℕ → List ℕ
 partsOf c ms core = shares (alphabet c) (label (alphabet c) core) ms core
 
 -- one command: the row has room behind place `at` for its part, if it is an apex
-pub record Placeable (c : List ℕ) (conflicts : List (List ℕ)) (core1 core2 fs labels : List ℕ) (k rounds : ℕ)
+pub record Placeable (c : List ℕ) (conflicts : List (List ℕ)) (core1 core2 fs labels : List ℕ) (k : ℕ)
     (row : List ℕ) (at : ℕ) : Type 0 where
-  pub flagged : Flagged c conflicts core1 core2 fs labels rounds
+  pub flagged : Flagged c conflicts core1 core2 fs labels
   pub room :
       at
-      + rounds
+      + Catalogue.commands c
       * (length (partsOf c (apexAt fs labels k) core1) + length (partsOf c (apexAt fs labels k) core2))
       ≤ length row
 
--- two whole cores: the rounds are as many as commands, and the row has room behind place `at` for the lead-ins of all
--- parts
-pub record Coreable (c : List ℕ) (conflicts : List (List ℕ)) (core1 core2 : List ℕ) (rounds : ℕ) (row : List ℕ)
-    (at : ℕ) : Type 0 where
+-- two whole cores: the row has room behind place `at` for the lead-ins of all parts
+pub record Coreable (c : List ℕ) (conflicts : List (List ℕ)) (core1 core2 row : List ℕ) (at : ℕ) : Type 0 where
   pub first : Cyclic c conflicts core1
   pub second : Cyclic c conflicts core2
-  pub enough : rounds ≡ Catalogue.commands c
-  pub room : at + rounds * (length core1 + length core2) ≤ length row
+  pub room : at + Catalogue.commands c * (length core1 + length core2) ≤ length row
 
 -- u conjugates one core to the other, in commands of the catalogue. Its letters and those of the first core are at most
 -- 2N times as many as those of the first core.
@@ -68,17 +69,15 @@ pub record CoresJoined (c core1 core2 before : List ℕ) (at : ℕ) (after : Lis
 abbrev pub coresRounds : List ℕ → List ℕ → List ℕ → ℕ
 coresRounds c core1 core2 = max (core-rounds (alphabet c) core1) (core-rounds (alphabet c) core2)
 
--- what an outcome says of two cores: a conjugator is written, or there is none; every part is settled and counted
+-- what an outcome says of two cores: a conjugator is written, or there is none; every part is counted
 abbrev pub CoresOutcome : List ℕ → List ℕ → List ℕ → List ℕ → ℕ → List ℕ → Outcome → Type 0
 CoresOutcome c x y before at after (Joined end n) = CoresJoined c x y before at after end × (n ≡ coresRounds c x y)
 CoresOutcome c x y before at after (Apart n) = (cores-joined? (alphabet c) x y ≡ false) × (n ≡ coresRounds c x y)
-CoresOutcome c x y before at after (Unsettled p) = ⊥
 
--- a part that is apart, with the larger of its rounds and of those of the others
-abbrev pub stoppedAt : Outcome → ℕ → Outcome
-stoppedAt (Joined end n) m = Joined end n
-stoppedAt (Apart n) m = Apart (max m n)
-stoppedAt (Unsettled p) m = Unsettled p
+-- the rounds that an outcome tells
+abbrev pub roundsOf : Outcome → ℕ
+roundsOf (Joined end n) = n
+roundsOf (Apart n) = n
 
 -- the apexes up to command k are joined, their lead-ins stand in the row, and their rounds are counted
 pub record Sofar (c core1 core2 fs labels before : List ℕ) (at : ℕ) (after : List ℕ) (end most k : ℕ) : Type 0 where

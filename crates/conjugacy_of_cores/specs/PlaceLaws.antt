@@ -3,6 +3,7 @@ use Prim.Native.Nat.{ℕ, _+_, _*_, _≤_, _<_}
 use mathlib.Core.Path.{_≡_, refl, sym, _∙_, ap, subst, subst₂}
 use mathlib.Core.List.{List, [], _∷_, append-nil}
 use lib.ListN.{length, getD}
+use Rattle.spec.specs.Catalogue.{commands}
 use Rattle.spec.specs.Letters.{alphabet}
 use Rattle.theory_conjugacy.specs.Part.{label, part, share}
 use Rattle.theory_conjugacy.specs.PartLaws.{shares, part-share}
@@ -15,8 +16,8 @@ use Rattle.conjugacy_of_parts.specs.Parts.{Partable, PartsOutcome}
 use Rattle.conjugacy_of_cores.specs.Pair.{partsOf, Placeable}
 use Rattle.conjugacy_of_cores.specs.SofarLaws.{joined-none}
 
-module _ {c : List ℕ} {conflicts : List (List ℕ)} {x y fs labels : List ℕ} {k rounds : ℕ}
-    {row : List ℕ} {at : ℕ} (h : Placeable c conflicts x y fs labels k rounds row at) where
+module _ {c : List ℕ} {conflicts : List (List ℕ)} {x y fs labels : List ℕ} {k : ℕ} {row : List ℕ} {at : ℕ}
+    (h : Placeable c conflicts x y fs labels k row at) where
   -- a command that is no apex adds nothing and takes no rounds
   pub place-none : ¬ Apex fs labels k → PartsOutcome c x y (apexAt fs labels k) row at row (Joined at 0)
   unfolding most-rounds
@@ -32,12 +33,11 @@ module _ {c : List ℕ} {conflicts : List (List ℕ)} {x y fs labels : List ℕ}
         ap (λ (ms : List ℕ). length (partsOf c ms z)) (apex-own fs labels k a ∙ ap (λ j. j ∷ []) (sym (a .own)))
         ∙ ap length (append-nil (share (alphabet c) (label (alphabet c) z) m z) ∙ sym (part-share (alphabet c) m z))
 
-    pub place-partable : Partable c conflicts x y labels (getD labels k 0) rounds row at
+    pub place-partable : Partable c conflicts x y labels (getD labels k 0) row at
     place-partable = record {
       two = h .flagged .two;
       apical = apex-member c x (h .flagged .flags) (h .flagged .two .first .labelled) k l a;
-      enough = h .flagged .enough;
-      room = subst₂ (λ n m. at + rounds * (n + m) ≤ length row) (part-length x) (part-length y) (h .room);
+      room = subst₂ (λ n m. at + commands c * (n + m) ≤ length row) (part-length x) (part-length y) (h .room);
     }
 
     pub place-outcome : (after : List ℕ) (o : Outcome) → PartsOutcome c x y (getD labels k 0 ∷ []) row at after o

@@ -25,10 +25,9 @@ use Rattle.theory_conjugacy.specs.Rounds.{most-rounds}
 use Rattle.conjugacy_rounds.specs.Apexes.{apexAt, apexesFrom}
 use Rattle.conjugacy_rounds.specs.ApexesLaws.{apexes-from}
 use Rattle.conjugacy_of_parts.specs.declared.Outcome.{Outcome}
-use Rattle.conjugacy_of_parts.specs.declared.Outcome.the-variants.{Joined, Apart, Unsettled}
-use Rattle.conjugacy_of_parts.specs.Outcomes.{Stops}
+use Rattle.conjugacy_of_parts.specs.declared.Outcome.the-variants.{Joined, Apart}
 use Rattle.conjugacy_of_parts.specs.Parts.{PartsJoined, bothRounds, PartsOutcome}
-use Rattle.conjugacy_of_cores.specs.Pair.{partsOf, Flagged, Placeable, stoppedAt, Sofar}
+use Rattle.conjugacy_of_cores.specs.Pair.{partsOf, Joinable, Placeable, Sofar}
 use Rattle.conjugacy_of_cores.specs.AppendLaws.{shares-append, joined-append, lead-append, rounds-append}
 
 -- no lead-in yet
@@ -100,35 +99,37 @@ doubled n i l m e h =
 max-behind : {most m n r d a v : ℕ} → most ≡ d → n ≡ a → r ≡ v → m ≡ max most r → max m n ≡ max d (max a v)
 max-behind e f g h = omega arith
 
-module _ {c : List ℕ} {conflicts : List (List ℕ)} {x y fs labels : List ℕ} {rounds : ℕ}
-    (h : Flagged c conflicts x y fs labels rounds) where
-  pub sofar-start : (row : List ℕ) (at : ℕ) → Sofar c x y fs labels row at row at 0 0
+module _ {c : List ℕ} {conflicts : List (List ℕ)} {x y fs labels before : List ℕ} {at : ℕ}
+    (h : Joinable c conflicts x y fs labels before at) where
+  pub sofar-start : Sofar c x y fs labels before at before at 0 0
   unfolding most-rounds
-  sofar-start row at = record {
+  sofar-start = record {
     done = [];
     left = 24;
     count = refl;
-    all = apexes-from c x (h .flags) (h .two .first .labelled);
-    parts = joined-none c x y row at;
+    all = apexes-from c x (h .flagged .flags) (h .flagged .two .first .labelled);
+    parts = joined-none c x y before at;
     rounds = refl;
   }
 
-  range : (j : ℕ) → Occurs (alphabet c) j x → (1 ≤ j) × (j ≤ rounds)
-  range = subst (λ n. (j : ℕ) → Occurs (alphabet c) j x → (1 ≤ j) × (j ≤ n)) (sym (h .enough))
-      (all-occurs (alphabet c) (λ j. (1 ≤ j) × (j ≤ Catalogue.commands c)) x
-      (all-map (λ b t. command-range (Catalogue.commands c) b (omega (arith, h .two .first .cyclic .few)) t) x
-      (h .two .first .cyclic .letters)))
+  abbrev N : ℕ
+  N = Catalogue.commands c
+
+  range : (j : ℕ) → Occurs (alphabet c) j x → (1 ≤ j) × (j ≤ N)
+  range = all-occurs (alphabet c) (λ j. (1 ≤ j) × (j ≤ N)) x
+      (all-map (λ b t. command-range N b (omega (arith, h .flagged .two .first .cyclic .few)) t) x
+      (h .flagged .two .first .cyclic .letters))
 
   -- the lead-ins of some of the apexes are short
-  lead-ins-short : {before after : List ℕ} {at end : ℕ} (ms : List ℕ) → Within ms (apexes (alphabet c) x)
+  lead-ins-short : {after : List ℕ} {end : ℕ} (ms : List ℕ) → Within ms (apexes (alphabet c) x)
       → PartsJoined c x y ms before at after end
-      → length (parts-lead (alphabet c) ms x y) ≤ rounds * (length (partsOf c ms x) + length (partsOf c ms y))
+      → length (parts-lead (alphabet c) ms x y) ≤ N * (length (partsOf c ms x) + length (partsOf c ms y))
   lead-ins-short ms w l =
-      let e = parts-lead-length (alphabet c) x y (h .two .same) rounds range ms w (l .joined) in
-      doubled rounds (length (parts-lead (alphabet c) ms x y)) (length (partsOf c ms x)) (length (partsOf c ms y))
-      (parts-of-joined c x y (h .two .same) ms w (l .joined)) (omega arith)
+      let e = parts-lead-length (alphabet c) x y (h .flagged .two .same) N range ms w (l .joined) in
+      doubled N (length (parts-lead (alphabet c) ms x y)) (length (partsOf c ms x)) (length (partsOf c ms y))
+      (parts-of-joined c x y (h .flagged .two .same) ms w (l .joined)) (omega arith)
 
-  module _ {before after : List ℕ} {at end most k : ℕ} (s : Sofar c x y fs labels before at after end most k) where
+  module _ {after : List ℕ} {end most k : ℕ} (s : Sofar c x y fs labels before at after end most k) where
     abbrev rest : List ℕ
     rest = apexesFrom fs labels (s .left) k
 
@@ -142,7 +143,7 @@ module _ {c : List ℕ} {conflicts : List (List ℕ)} {x y fs labels : List ℕ}
 
     second-all : length (partsOf c (s .done) y) + length (partsOf c rest y) ≡ length y
     second-all = sym (parts-of-append c y (s .done) rest)
-        ∙ ap (λ (ms : List ℕ). length (partsOf c ms y)) (s .all ∙ apexes-same (alphabet c) x y (h .two .same))
+        ∙ ap (λ (ms : List ℕ). length (partsOf c ms y)) (s .all ∙ apexes-same (alphabet c) x y (h .flagged .two .same))
         ∙ parts-of-all c y
 
     rest-next : k < 24 → (n : ℕ) × (n + (k + 1) ≡ 24) × (rest ≡ apexAt fs labels k ++ apexesFrom fs labels n (k + 1))
@@ -154,10 +155,10 @@ module _ {c : List ℕ} {conflicts : List (List ℕ)} {x y fs labels : List ℕ}
         go zero e = absurd (omega arith)
         go (suc n) e = (n, omega arith, refl)
 
-    sofar-room : k < 24 → at + rounds * (length x + length y) ≤ length before → length after ≡ length before
-        → end + rounds * (length (partsOf c (apexAt fs labels k) x) + length (partsOf c (apexAt fs labels k) y))
+    sofar-room : k < 24 → length after ≡ length before
+        → end + N * (length (partsOf c (apexAt fs labels k) x) + length (partsOf c (apexAt fs labels k) y))
         ≤ length after
-    sofar-room l r e =
+    sofar-room l e =
         let (n, f, g) = rest-next l in
         let a = apexAt fs labels k in
         let m = apexesFrom fs labels n (k + 1) in
@@ -168,8 +169,8 @@ module _ {c : List ℕ} {conflicts : List (List ℕ)} {x y fs labels : List ℕ}
         let d = length (partsOf c (s .done) x) + length (partsOf c (s .done) y) in
         let b = length (partsOf c a x) + length (partsOf c a y) in
         let t : d + b ≤ length x + length y = omega arith in
-        let q = more-room rounds (length (parts-lead (alphabet c) (s .done) x y)) d b at (length before)
-        (lead-ins-short (s .done) within (s .parts)) (omega (arith, mul-le-mul-left rounds t)) in
+        let q = more-room N (length (parts-lead (alphabet c) (s .done) x y)) d b at (length before)
+        (lead-ins-short (s .done) within (s .parts)) (omega (arith, h .room, mul-le-mul-left N t)) in
         omega (arith, q, s .parts .ends)
 
     pub sofar-again : {after′ : List ℕ} {end′ n m : ℕ} → k < 24
@@ -214,13 +215,11 @@ module _ {c : List ℕ} {conflicts : List (List ℕ)} {x y fs labels : List ℕ}
         w ∙ ap (max (b (s .done))) (sym (ap b g ∙ rounds-append c a (apexesFrom fs labels n (k + 1)) x y))
         ∙ sym (rounds-append c (s .done) rest x y) ∙ ap b (s .all)
 
-    pub sofar-stop : (after′ after″ : List ℕ) (o : Outcome) {r m : ℕ} → k < 24 → Stops o
-        → PartsOutcome c x y (apexAt fs labels k) after end after′ o
+    pub sofar-stop : (after′ after″ : List ℕ) {n r m : ℕ} → k < 24
+        → PartsOutcome c x y (apexAt fs labels k) after end after′ (Apart n)
         → r ≡ bothRounds c (apexesFrom fs labels (24 - (k + 1)) (k + 1)) x y → m ≡ max most r
-        → PartsOutcome c x y (apexes (alphabet c) x) before at after″ (stoppedAt o m)
-    sofar-stop after′ after″ (Joined e n) l t d i f = absurd t
-    sofar-stop after′ after″ (Apart n) l t (d, e) i f = (apart-all l d, all-rounds l e i f)
-    sofar-stop after′ after″ (Unsettled p) l t d i f = d
+        → PartsOutcome c x y (apexes (alphabet c) x) before at after″ (Apart (max m n))
+    sofar-stop after′ after″ l (d, e) i f = (apart-all l d, all-rounds l e i f)
 
     pub sofar-end : (k < 24 → ⊥) → PartsOutcome c x y (apexes (alphabet c) x) before at after (Joined end most)
     unfolding apexesFrom
@@ -233,9 +232,8 @@ module _ {c : List ℕ} {conflicts : List (List ℕ)} {x y fs labels : List ℕ}
         go (suc m) e f = absurd (n (omega arith))
 
     -- so the next command can be tried
-    pub sofar-placeable : length after ≡ length before → k < 24
-        → at + rounds * (length x + length y) ≤ length before → Placeable c conflicts x y fs labels k rounds after end
-    sofar-placeable e l r = record { flagged = h; room = sofar-room l r e }
+    pub sofar-placeable : length after ≡ length before → k < 24 → Placeable c conflicts x y fs labels k after end
+    sofar-placeable e l = record { flagged = h .flagged; room = sofar-room l e }
 
 -- what one step tells
 pub parts-told : (c x y ms before : List ℕ) (at : ℕ) (after : List ℕ) {o p : Outcome}

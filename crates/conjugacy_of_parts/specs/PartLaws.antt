@@ -9,6 +9,7 @@ use mathlib.Core.List.{List, [], _∷_, _++_, append-assoc, append-nil}
 use lib.ListN.{length, take, length-append, length-take}
 use lib.Seq.{length-take-le, take-take, take-at}
 use Rattle.theory_words.specs.Group.{undo}
+use Rattle.spec.specs.Catalogue.{commands}
 use Rattle.spec.specs.Letters.{alphabet}
 use Rattle.theory_conjugacy.specs.AscendingLaws.{_∈_}
 use Rattle.theory_conjugacy.specs.Part.{apexes, part}
@@ -19,19 +20,13 @@ use Rattle.theory_conjugacy.specs.LeadIn.{place, settling, part-lead, parts-lea
 use Rattle.theory_conjugacy.specs.LeadInLaws.{apical-part, ring-length}
 use Rattle.theory_conjugacy.specs.Rounds.{most-rounds}
 use Rattle.conjugacy_settled_parts.specs.declared.Ends.{Ends}
-use Rattle.conjugacy_settled_parts.specs.declared.SettledPart.{SettledPart}
-use Rattle.conjugacy_settled_parts.specs.declared.SettledPart.the-variants as settled-part
 use Rattle.conjugacy_settled_parts.specs.PartOf.{PartOf}
-use Rattle.conjugacy_settled_parts.specs.PartOfLaws.{apex-some, apex-quiet, apex-cycled}
-use Rattle.conjugacy_ring.specs.Ring.{Rung, Rings}
+use Rattle.conjugacy_settled_parts.specs.PartOfLaws.{apex-some, apex-cycled}
+use Rattle.conjugacy_ring.specs.Ring.{Rung}
 use Rattle.conjugacy_of_parts.specs.declared.Outcome.{Outcome}
-use Rattle.conjugacy_of_parts.specs.declared.Outcome.the-variants.{Joined, Apart, Unsettled}
+use Rattle.conjugacy_of_parts.specs.declared.Outcome.the-variants.{Joined, Apart}
 use Rattle.conjugacy_of_parts.specs.Parts.{RingsRoom, RingsJoined, RingsOutcome}
 use Rattle.conjugacy_of_parts.specs.Parts.{Partable, PartsJoined, bothRounds, PartsOutcome}
-
-pub rings-of : (c x : List ℕ) (apex rounds : ℕ) (ring out out′ : List ℕ) (at : ℕ) {r : SettledPart} {e : Ends}
-    → Rings c x apex rounds ring out out′ at r → r ≡ settled-part.Of e → Rung c x apex ring out out′ at e
-rings-of c x apex rounds ring out out′ at h e = subst (Rings c x apex rounds ring out out′ at) e h
 
 -- a ring that is lent
 
@@ -54,8 +49,8 @@ behind-both n l m i j at r a b k =
     let e : suc n ≡ 1 + n = omega arith in
     omega (arith, mul-add (suc n) l m, ap (λ j. j * l) e, add-mul 1 n l, ap (λ j. j * m) e, add-mul 1 n m)
 
-module _ {c : List ℕ} {conflicts : List (List ℕ)} {x y labels : List ℕ} {apex rounds : ℕ} {row : List ℕ} {at : ℕ}
-    (k : Partable c conflicts x y labels apex rounds row at) where
+module _ {c : List ℕ} {conflicts : List (List ℕ)} {x y labels : List ℕ} {apex : ℕ} {row : List ℕ} {at : ℕ}
+    (k : Partable c conflicts x y labels apex row at) where
   abbrev p : List ℕ
   p = part (alphabet c) apex x
 
@@ -65,28 +60,27 @@ module _ {c : List ℕ} {conflicts : List (List ℕ)} {x y labels : List ℕ} {a
   part-apex : apex ∈ apexes (alphabet c) y
   part-apex = subst (λ (ms : List ℕ). apex ∈ ms) (apexes-same (alphabet c) x y (k .two .same)) (k .apical)
 
-  -- the rounds but one, and what they cycle
+  -- the commands but one: so many rounds settle either part
   abbrev less : ℕ
-  less = rounds - 1
+  less = commands c - 1
 
-  rounds-less : rounds ≡ suc less
-  rounds-less = omega (arith, apex-some (k .two .first .cyclic) (k .apical) (k .enough))
+  commands-less : commands c ≡ suc less
+  commands-less = omega (arith, apex-some (k .two .first .cyclic) (k .apical))
 
   first-cycled : length (settling (alphabet c) apex p) + less ≤ less * length p
-  first-cycled = apex-cycled (k .two .first .cyclic) (k .apical) (k .enough) less rounds-less
+  first-cycled = apex-cycled (k .two .first .cyclic) (k .apical) less commands-less
 
   second-cycled : length (settling (alphabet c) apex q) + less ≤ less * length q
-  second-cycled = apex-cycled (k .two .second .cyclic) part-apex (k .enough) less rounds-less
+  second-cycled = apex-cycled (k .two .second .cyclic) part-apex less commands-less
 
   whole-room : at + suc less * (length p + length q) ≤ length row
-  whole-room = subst (λ m. at + m * (length p + length q) ≤ length row) rounds-less (k .room)
+  whole-room = subst (λ m. at + m * (length p + length q) ≤ length row) commands-less (k .room)
 
-  pub part-first : PartOf c conflicts x labels apex rounds row at
+  pub part-first : PartOf c conflicts x labels apex row at
   part-first = record {
     core = k .two .first;
     apical = k .apical;
-    enough = k .enough;
-    room = omega (arith, k .room, mul-add rounds (length p) (length q));
+    room = omega (arith, k .room, mul-add (commands c) (length p) (length q));
   }
 
   -- a sheet, with its 1,024 bytes, holds either core
@@ -95,18 +89,6 @@ module _ {c : List ℕ} {conflicts : List (List ℕ)} {x y labels : List ℕ} {a
 
   pub second-fits : {n : ℕ} → 1024 ≡ n → length y ≤ n
   second-fits e = omega (arith, k .two .second .cyclic .short)
-
-  -- neither is unsettled
-  pub first-settled : (ring out out′ : List ℕ) {r : SettledPart} → Rings c x apex rounds ring out out′ at r
-      → r ≡ settled-part.Unsettled → ⊥
-  first-settled ring out out′ h e =
-      subst (Rings c x apex rounds ring out out′ at) e h (apex-quiet (k .two .first .cyclic) (k .apical) (k .enough))
-
-  pub second-settled : (ring out out′ : List ℕ) (from : ℕ) {r : SettledPart}
-      → Rings c y apex rounds ring out out′ from r → r ≡ settled-part.Unsettled → ⊥
-  second-settled ring out out′ from h e =
-      subst (Rings c y apex rounds ring out out′ from) e h
-      (apex-quiet (k .two .second .cyclic) part-apex (k .enough))
 
   -- behind what settling the first cycles
   module _ {ring row′ : List ℕ} {one : Ends} (f : Rung c x apex ring row row′ at one)
@@ -117,12 +99,11 @@ module _ {c : List ℕ} {conflicts : List (List ℕ)} {x y labels : List ℕ} {a
         first-cycled whole-room in
         omega (arith, w, f .end)
 
-    pub part-second : PartOf c conflicts y labels apex rounds row′ (one .cycled)
+    pub part-second : PartOf c conflicts y labels apex row′ (one .cycled)
     part-second = record {
       core = k .two .second;
       apical = part-apex;
-      enough = k .enough;
-      room = subst (λ m. one .cycled + m * length q ≤ length row′) (sym rounds-less) first-room;
+      room = subst (λ m. one .cycled + m * length q ≤ length row′) (sym commands-less) first-room;
     }
 
     -- the way from ring to ring
@@ -200,4 +181,3 @@ module _ {c : List ℕ} {conflicts : List (List ℕ)} {x y labels : List ℕ} {a
       part-outcome after {n} e (Apart m) h =
           let (j, l) = outcome-of-rings after n (Apart m) h in
           (part-apart j, part-counted (l ∙ e))
-      part-outcome after e (Unsettled p) h = h

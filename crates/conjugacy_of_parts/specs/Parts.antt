@@ -15,7 +15,7 @@ use Rattle.theory_conjugacy.specs.LeadIn.{place, parts-lead}
 use Rattle.theory_conjugacy.specs.Rounds.{most-rounds}
 use Rattle.conjugacy_settled_parts.specs.PartOf.{Labelled}
 use Rattle.conjugacy_of_parts.specs.declared.Outcome.{Outcome}
-use Rattle.conjugacy_of_parts.specs.declared.Outcome.the-variants.{Joined, Apart, Unsettled}
+use Rattle.conjugacy_of_parts.specs.declared.Outcome.the-variants.{Joined, Apart}
 
 -- the letters cycled stand between two places, and behind them the row has room for the ring
 pub record RingsRoom (ring row : List ℕ) (from at : ℕ) : Type 0 where
@@ -37,7 +37,6 @@ RingsOutcome c ring other cycled before at after rounds (Joined end n) =
     RingsJoined c ring other cycled before at after end × (n ≡ rounds)
 RingsOutcome c ring other cycled before at after rounds (Apart n) =
     (rotated? (alphabet c) ring other ≡ false) × (n ≡ rounds)
-RingsOutcome c ring other cycled before at after rounds (Unsettled p) = ⊥
 
 -- two cores in which the same commands occur, and their labels
 pub record Two (c : List ℕ) (conflicts : List (List ℕ)) (core1 core2 labels : List ℕ) : Type 0 where
@@ -45,14 +44,16 @@ pub record Two (c : List ℕ) (conflicts : List (List ℕ)) (core1 core2 labels 
   pub second : Labelled c conflicts core2 labels
   pub same : commands (alphabet c) core1 ≡ commands (alphabet c) core2
 
--- one part: the apex is one of the first core, the rounds are as many as commands, and the row has room behind place
--- `at` for what so many rounds cycle of both
-pub record Partable (c : List ℕ) (conflicts : List (List ℕ)) (core1 core2 labels : List ℕ) (apex rounds : ℕ)
-    (row : List ℕ) (at : ℕ) : Type 0 where
+-- one part: the apex is one of the first core, and the row has room behind place `at` for what as many rounds as
+-- commands cycle of both
+pub record Partable (c : List ℕ) (conflicts : List (List ℕ)) (core1 core2 labels : List ℕ) (apex : ℕ) (row : List ℕ)
+    (at : ℕ) : Type 0 where
   pub two : Two c conflicts core1 core2 labels
   pub apical : apex ∈ apexes (alphabet c) core1
-  pub enough : rounds ≡ Catalogue.commands c
-  pub room : at + rounds * (length (part (alphabet c) apex core1) + length (part (alphabet c) apex core2))
+  pub room :
+      at
+      + Catalogue.commands c
+      * (length (part (alphabet c) apex core1) + length (part (alphabet c) apex core2))
       ≤ length row
 
 -- the parts with these apexes are joined, and behind the first `at` bytes now stand their lead-ins, up to `end`
@@ -65,10 +66,9 @@ pub record PartsJoined (c core1 core2 ms before : List ℕ) (at : ℕ) (after : 
 abbrev pub bothRounds : List ℕ → List ℕ → List ℕ → List ℕ → ℕ
 bothRounds c ms core1 core2 = max (most-rounds (alphabet c) ms core1) (most-rounds (alphabet c) ms core2)
 
--- what an outcome says of the parts with these apexes; every part is settled by so many rounds
+-- what an outcome says of the parts with these apexes
 abbrev pub PartsOutcome : List ℕ → List ℕ → List ℕ → List ℕ → List ℕ → ℕ → List ℕ → Outcome → Type 0
 PartsOutcome c x y ms before at after (Joined end n) =
     PartsJoined c x y ms before at after end × (n ≡ bothRounds c ms x y)
 PartsOutcome c x y ms before at after (Apart n) =
     (parts-joined? (alphabet c) ms x y ≡ false) × (n ≡ bothRounds c ms x y)
-PartsOutcome c x y ms before at after (Unsettled p) = ⊥

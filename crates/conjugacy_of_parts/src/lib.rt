@@ -9,19 +9,16 @@ use conjugacy_ring::ring_of;
 use conjugacy_rotation::Start;
 use conjugacy_rotation::rotation;
 use conjugacy_rounds::larger;
-use conjugacy_settled_parts::SettledPart;
 ghost use Prim.Native.Nat.{ℕ};
 ghost use mathlib.Core.Path.{_≡_};
 ghost use mathlib.Core.List.{List, [], _∷_, _++_};
 ghost use lib.ListN.{take};
 ghost use Rattle.conjugacy_of_parts.specs.Parts.{RingsRoom, RingsOutcome, Partable, PartsOutcome};
 
-// Two loops are joined, by a lead-in that ends here, or apart, and the most rounds that a part took; or a part of plan
-// 1 or 2 is unsettled.
+// Two loops are joined, by a lead-in that ends here, or apart; and the most rounds that a part took.
 pub enum Outcome {
     Joined { end: usize, rounds: usize },
     Apart { rounds: usize },
-    Unsettled(u8),
 }
 
 // Whether a ring is a rotation of another, and the way between them behind the first bytes of the row: the ring up to
@@ -56,30 +53,22 @@ pub fn join_part(
     core2: &[u8],
     labels: &[u8; 24],
     apex: u8,
-    rounds: usize,
     conflicts: &[[u16; 24]; 24],
     row: &mut [u8],
     at: usize,
 ) -> Outcome
     requires { ⌜ ((c : List ℕ)
-        × Partable c (now conflicts) (now core1) (now core2) (now labels) apex rounds (now row) at) ⌝ }
+        × Partable c (now conflicts) (now core1) (now core2) (now labels) apex (now row) at) ⌝ }
     ensures { λ r. ⌜ ((c : List ℕ)
         → Partable c (now (conflicts .entry)) (now (core1 .entry)) (now (core2 .entry)) (now (labels .entry)) apex
-        rounds (now (row .entry)) at
+        (now (row .entry)) at
         → PartsOutcome c (now (core1 .entry)) (now (core2 .entry)) (apex ∷ []) (now (row .entry)) at
         (now (row .exit)) r) ⌝ }
 {
     let mut ring = sheet();
     let mut other = sheet();
-    let first = ring_of(core1, labels, apex, rounds, conflicts, &mut ring, row, at);
-    let SettledPart::Of(one) = first else {
-        return Outcome::Unsettled(1);
-    };
-    let end = one.cycled;
-    let second = ring_of(core2, labels, apex, rounds, conflicts, &mut other, row, end);
-    let SettledPart::Of(two) = second else {
-        return Outcome::Unsettled(2);
-    };
+    let one = ring_of(core1, labels, apex, conflicts, &mut ring, row, at);
+    let two = ring_of(core2, labels, apex, conflicts, &mut other, row, one.cycled);
     join_rings(
         &ring[..one.letters],
         &other[..two.letters],

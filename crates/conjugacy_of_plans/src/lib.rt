@@ -4,10 +4,9 @@
 use array_row::sheet;
 use conjugacy_of_parts::Outcome;
 use piling_form::core_of;
-ghost use Prim.Native.Nat.{ℕ, _≤_, _+_, _*_};
+ghost use Prim.Native.Nat.{ℕ};
 ghost use mathlib.Core.List.{List};
-ghost use lib.ListN.{length};
-ghost use Rattle.conjugacy_by_cores.specs.Join.{Plans, FormRoom, FormOutcome, PlansOutcome};
+ghost use Rattle.conjugacy_by_cores.specs.Join.{Plans, Cores, PlansRoom, PlansOutcome};
 use conjugacy_by_cores::lead_in_form;
 
 // As `lead_in_form`, for n commands, with a row of its own: the shortest that suffices, so that short cores clear
@@ -21,26 +20,29 @@ fn join_by_cores(
     conflicts: &[[u16; 24]; 24],
     area: &mut [u8],
 ) -> Outcome
-    requires { ⌜ FormRoom (now conflicts) (now core1) (now lead1) (now core2) (now lead2) n 49152
-        (now area) ⌝ }
-    ensures { λ r. ⌜ FormOutcome (now (conflicts .entry)) (now (core1 .entry)) (now (lead1 .entry))
-        (now (core2 .entry)) (now (lead2 .entry)) n (now (area .entry)) r (now (area .exit)) ⌝ }
+    requires { ⌜ ((c : List ℕ) × (v : List ℕ) × (w : List ℕ)
+        × Cores c (now conflicts) v w (now core1) (now lead1) (now core2) (now lead2)
+        × PlansRoom c v w n (now area)) ⌝ }
+    ensures { λ r. ⌜ ((c v w : List ℕ)
+        → Cores c (now (conflicts .entry)) v w (now (core1 .entry)) (now (lead1 .entry)) (now (core2 .entry))
+        (now (lead2 .entry))
+        → PlansRoom c v w n (now (area .entry)) → PlansOutcome c v w (now (area .entry)) r (now (area .exit))) ⌝ }
 {
     let need = n * (2 * lead1.len() + core1.len() + (2 * lead2.len() + core2.len()));
     if need <= 2048 {
         let mut row = array_row::short_row();
-        return lead_in_form(core1, lead1, core2, lead2, n, conflicts, &mut row, area);
+        return lead_in_form(core1, lead1, core2, lead2, conflicts, &mut row, area);
     }
     if need <= 8192 {
         let mut row = array_row::middle_row();
-        return lead_in_form(core1, lead1, core2, lead2, n, conflicts, &mut row, area);
+        return lead_in_form(core1, lead1, core2, lead2, conflicts, &mut row, area);
     }
     if need <= 24576 {
         let mut row = array_row::wide_row();
-        return lead_in_form(core1, lead1, core2, lead2, n, conflicts, &mut row, area);
+        return lead_in_form(core1, lead1, core2, lead2, conflicts, &mut row, area);
     }
     let mut row = array_row::blank_row();
-    lead_in_form(core1, lead1, core2, lead2, n, conflicts, &mut row, area)
+    lead_in_form(core1, lead1, core2, lead2, conflicts, &mut row, area)
 }
 
 // Whether two plans are joined, with so many commands, and the lead-in at the start of the area.
@@ -51,9 +53,10 @@ pub fn join_plans(
     conflicts: &[[u16; 24]; 24],
     area: &mut [u8],
 ) -> Outcome
-    requires { ⌜ ((c : List ℕ) × Plans c (now conflicts) (now v) (now w) commands
-        × (commands * (length (now v) + length (now w)) ≤ length (now area))) ⌝ }
-    ensures { λ r. ⌜ ((c : List ℕ) → Plans c (now (conflicts .entry)) (now (v .entry)) (now (w .entry)) commands
+    requires { ⌜ ((c : List ℕ) × Plans c (now conflicts) (now v) (now w)
+        × PlansRoom c (now v) (now w) commands (now area)) ⌝ }
+    ensures { λ r. ⌜ ((c : List ℕ) → Plans c (now (conflicts .entry)) (now (v .entry)) (now (w .entry))
+        → PlansRoom c (now (v .entry)) (now (w .entry)) commands (now (area .entry))
         → PlansOutcome c (now (v .entry)) (now (w .entry)) (now (area .entry)) r (now (area .exit))) ⌝ }
 {
     let mut core1 = sheet();

@@ -1,17 +1,14 @@
 -- What finding the ring of one part of a core gives.
 use Prim.Native.Nat.{ℕ, _+_}
 use mathlib.Core.Path.{_≡_}
-use mathlib.Core.List.{List, [], _++_}
+use mathlib.Core.List.{List, _++_}
 use lib.ListN.{length, take}
 use Rattle.spec.specs.Letters.{alphabet}
 use Rattle.theory_conjugacy.specs.Part.{part}
-use Rattle.theory_conjugacy.specs.Settle.{split, settled}
 use Rattle.theory_conjugacy.specs.Decision.{part-ring}
 use Rattle.theory_conjugacy.specs.LeadIn.{settling}
 use Rattle.theory_conjugacy.specs.Rounds.{part-rounds}
 use Rattle.conjugacy_settled_parts.specs.declared.Ends.{Ends}
-use Rattle.conjugacy_settled_parts.specs.declared.SettledPart.{SettledPart}
-use Rattle.conjugacy_settled_parts.specs.declared.SettledPart.the-variants.{Of, Unsettled}
 
 -- the ring of the part stands in `ring`, and the letters that settling cycles in `out` behind what was there
 pub record Rung (c x : List ℕ) (apex : ℕ) (ring′ out out′ : List ℕ) (at : ℕ) (e : Ends) : Type 0 where
@@ -20,9 +17,3 @@ pub record Rung (c x : List ℕ) (apex : ℕ) (ring′ out out′ : List ℕ) (a
   pub cycled : take (e .cycled) out′ ≡ take at out ++ settling (alphabet c) apex (part (alphabet c) apex x)
   pub end : e .cycled ≡ at + length (settling (alphabet c) apex (part (alphabet c) apex x))
   pub rounds : e .rounds ≡ part-rounds (alphabet c) apex x
-
--- the part has a ring, or so many rounds do not settle it
-abbrev pub Rings : List ℕ → List ℕ → ℕ → ℕ → List ℕ → List ℕ → List ℕ → ℕ → SettledPart → Type 0
-Rings c x apex rounds ring′ out out′ at (Of e) = Rung c x apex ring′ out out′ at e
-Rings c x apex rounds ring′ out out′ at Unsettled =
-    split (alphabet c) apex [] (settled (alphabet c) apex rounds (part (alphabet c) apex x)) .0 ≡ [] → ⊥

@@ -4,7 +4,7 @@ use Prim.Native.Nat.{ℕ, _+_, _≤_}
 use native.Mathlib.Omega.{arith}
 use mathlib.Core.Path.{_≡_, sym, _∙_, ap}
 use mathlib.Core.Bool.{true}
-use mathlib.Core.List.{List, [], _++_}
+use mathlib.Core.List.{List, _++_}
 use lib.ListN.{length, take, length-take}
 use Rattle.theory_words.specs.Reduce.{reduce}
 use Rattle.theory_words.specs.ReduceLaws.{reduce-fixed}
@@ -15,38 +15,36 @@ use Rattle.spec.specs.Letters.{letters, alphabet, normalForm}
 use Rattle.spec_laws.specs.LettersLaws.{Commands, letters-same, letters-length, commands-passing}
 use Rattle.theory_conjugacy.specs.TurnLaws.{round-turns, round-reduced}
 use Rattle.theory_conjugacy.specs.Part.{part}
-use Rattle.theory_conjugacy.specs.Settle.{split, settled, ring}
+use Rattle.theory_conjugacy.specs.PartLaws.{part-connected, apex-occurs}
+use Rattle.theory_conjugacy.specs.Settle.{Rounded}
+use Rattle.theory_conjugacy.specs.SettleLaws.{rounded-turns, rounded-as-long}
 use Rattle.theory_conjugacy.specs.Decision.{part-ring}
-use Rattle.theory_conjugacy.specs.LeadInLaws.{apical-part, settling-enough}
+use Rattle.theory_conjugacy.specs.LeadInLaws.{settling-cycled, settling-ring}
 use Rattle.array_row.specs.Area.{StartsWith}
 use Rattle.array_row.specs.AreaLaws.{starts-length, starts-take}
 use Rattle.long_reduction.specs.Reducing.{Given}
 use Rattle.long_form.specs.Forming.{Formable}
 use Rattle.conjugacy_settled_parts.specs.declared.Ends.{Ends}
 use Rattle.conjugacy_settled_parts.specs.PartOf.{Cyclic, PartOf, SettledOf}
-use Rattle.conjugacy_settled_parts.specs.PartOfLaws.{part-short, part-letters, settled-turns, settled-length}
-use Rattle.conjugacy_settled_parts.specs.PartOfLaws.{apex-few, settled-rounds}
+use Rattle.conjugacy_settled_parts.specs.PartOfLaws.{part-short, part-letters, settled-rounds}
 use Rattle.conjugacy_ring.specs.PartLaws.{part-round, turns-all}
 use Rattle.conjugacy_ring.specs.Ring.{Rung}
 
--- what settling makes of a part of a cyclically reduced word, the rounds being enough
+-- what settling makes of a part of a cyclically reduced word
 
-module _ {c : List ℕ} {conflicts : List (List ℕ)} {x : List ℕ} (k : Cyclic c conflicts x) (m n : ℕ)
-    (q : split (alphabet c) m [] (settled (alphabet c) m n (part (alphabet c) m x)) .0 ≡ []) where
-  abbrev w : List ℕ
-  w = settled (alphabet c) m n (part (alphabet c) m x)
-
+module _ {c : List ℕ} {conflicts : List (List ℕ)} {x : List ℕ} (k : Cyclic c conflicts x) {m n : ℕ} {g w : List ℕ}
+    (o : Rounded (alphabet c) m n (part (alphabet c) m x) g w) where
   settled-letters : Commands (commands c) w
   settled-letters =
-      turns-all (alphabet c) (λ b. isCommand (commands c) b ≡ true) (settled-turns k m n q) (part-letters k m)
+      turns-all (alphabet c) (λ b. isCommand (commands c) b ≡ true) (rounded-turns (alphabet c) m o) (part-letters k m)
 
-  -- its normal form is the ring
-  settled-normal : normalForm c w ≡ ring (alphabet c) m n (part (alphabet c) m x)
-  unfolding normalForm nf ring
+  -- its normal form is the word in order
+  settled-normal : normalForm c w ≡ lex (alphabet c) (length w) w
+  unfolding normalForm nf
   settled-normal =
       let e : letters w ≡ w = letters-same (commands c) w settled-letters in
       let r : reduce (alphabet c) w ≡ w = reduce-fixed (alphabet c) w (round-reduced (alphabet c) w
-      (round-turns (alphabet c) (settled-turns k m n q) (part-round (alphabet c) m x (k .round)))) in
+      (round-turns (alphabet c) (rounded-turns (alphabet c) m o) (part-round (alphabet c) m x (k .round)))) in
       ap (nf (alphabet c)) e ∙ ap (λ (z : List ℕ). lex (alphabet c) (length z) z) r
 
   settled-given : Given c conflicts w
@@ -54,14 +52,14 @@ module _ {c : List ℕ} {conflicts : List (List ℕ)} {x : List ℕ} (k : Cyclic
     table = k .table;
     few = k .few;
     passing = commands-passing (commands c) w settled-letters;
-    short = omega (arith, settled-length k m n q, part-short k m, k .short);
+    short = omega (arith, rounded-as-long (alphabet c) m o, part-short k m, k .short);
   }
 
 -- from the settled part to the ring
 
-module _ {c : List ℕ} {conflicts : List (List ℕ)} {x labels : List ℕ} {apex rounds : ℕ} {out : List ℕ} {at : ℕ}
-    (k : PartOf c conflicts x labels apex rounds out at) {word out′ : List ℕ} {e : Ends}
-    (s : SettledOf c x apex rounds word out out′ at e) where
+module _ {c : List ℕ} {conflicts : List (List ℕ)} {x labels : List ℕ} {apex : ℕ} {out : List ℕ} {at : ℕ}
+    (k : PartOf c conflicts x labels apex out at) {word out′ : List ℕ} {e : Ends}
+    (s : SettledOf c x apex word out out′ at e) where
   abbrev y : Cyclic c conflicts x
   y = k .core .cyclic
 
@@ -70,13 +68,13 @@ module _ {c : List ℕ} {conflicts : List (List ℕ)} {x labels : List ℕ} {ape
 
   -- what is lent of the word
   pub lent-count : e .letters ≡ length z
-  lent-count = s .many ∙ sym (ap length (s .ended .reached) ∙ settled-length y apex rounds (s .ended .still))
+  lent-count = s .many ∙ sym (rounded-as-long (alphabet c) apex (s .ended .rounded))
 
   pub lent-fits : e .letters ≤ length word
   lent-fits = omega (arith, lent-count, length-take (e .letters) word)
 
   pub lent-given : Given c conflicts z
-  lent-given = rw (s .ended .reached) (settled-given y apex rounds (s .ended .still))
+  lent-given = settled-given y (s .ended .rounded)
 
   pub lent-formable : {ring : List ℕ} → length x ≤ length ring → Formable 50176 c conflicts z ring
   lent-formable f = record {
@@ -89,14 +87,16 @@ module _ {c : List ℕ} {conflicts : List (List ℕ)} {x labels : List ℕ} {ape
       → Rung c x apex after out out′ at (record { letters = r; cycled = e .cycled; rounds = e .rounds })
   unfolding part-ring
   lent-rung f =
-      let (a, b) = settling-enough (alphabet c) (apical-part (alphabet c) x (k .apical)) rounds
-      (omega (arith, apex-few y (k .apical) (k .enough))) in
-      let g : normalForm c z ≡ part-ring (alphabet c) apex x =
-      ap (normalForm c) (s .ended .reached) ∙ settled-normal y apex rounds (s .ended .still) ∙ a in
+      let Γ = alphabet c in
+      let o = s .ended .rounded in
+      let h = part-connected Γ apex x in
+      let i = apex-occurs Γ x (k .apical) in
+      let b = sym (settling-cycled Γ h i o) in
+      let g : normalForm c z ≡ part-ring Γ apex x = settled-normal y o ∙ sym (settling-ring Γ h i o) in
       record {
         ring = starts-take f ∙ g;
         count = starts-length f ∙ ap length g;
         cycled = s .ended .written ∙ ap (λ (v : List ℕ). take at out ++ v) b;
-        end = s .ended .end ∙ ap (λ (v : List ℕ). at + length v) b;
+        end = s .ended .ends ∙ ap (λ (v : List ℕ). at + length v) b;
         rounds = settled-rounds k s;
       }

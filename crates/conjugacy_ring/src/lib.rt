@@ -2,43 +2,36 @@
 
 use array_row::sheet;
 use conjugacy_settled_parts::Ends;
-use conjugacy_settled_parts::SettledPart;
 use conjugacy_settled_parts::settle_part;
 use long_form::form;
 ghost use Prim.Native.Nat.{ℕ, _≤_};
 ghost use mathlib.Core.List.{List};
 ghost use lib.ListN.{length};
 ghost use Rattle.conjugacy_settled_parts.specs.PartOf.{PartOf};
-ghost use Rattle.conjugacy_ring.specs.Ring.{Rings};
+ghost use Rattle.conjugacy_ring.specs.Ring.{Rung};
 
 // The ring of the core's part with this apex, and from a place in cycled on the letters that settling cycles.
 pub fn ring_of(
     core: &[u8],
     labels: &[u8; 24],
     apex: u8,
-    rounds: usize,
     conflicts: &[[u16; 24]; 24],
     ring: &mut [u8],
     cycled: &mut [u8],
     at: usize,
-) -> SettledPart
-    requires { ⌜ ((c : List ℕ) × PartOf c (now conflicts) (now core) (now labels) apex rounds (now cycled) at)
+) -> Ends
+    requires { ⌜ ((c : List ℕ) × PartOf c (now conflicts) (now core) (now labels) apex (now cycled) at)
         × (length (now core) ≤ length (now ring)) ⌝ }
     ensures { λ r. ⌜ ((c : List ℕ)
-        → PartOf c (now (conflicts .entry)) (now (core .entry)) (now (labels .entry)) apex rounds
-        (now (cycled .entry)) at
-        → Rings c (now (core .entry)) apex rounds (now (ring .exit)) (now (cycled .entry))
-        (now (cycled .exit)) at r) ⌝ }
+        → PartOf c (now (conflicts .entry)) (now (core .entry)) (now (labels .entry)) apex (now (cycled .entry)) at
+        → Rung c (now (core .entry)) apex (now (ring .exit)) (now (cycled .entry)) (now (cycled .exit)) at r) ⌝ }
 {
     let mut word = sheet();
-    let settled = settle_part(core, labels, apex, rounds, conflicts, &mut word, cycled, at);
-    let SettledPart::Of(ends) = settled else {
-        return SettledPart::Unsettled;
-    };
+    let ends = settle_part(core, labels, apex, conflicts, &mut word, cycled, at);
     let letters = form(&word[..ends.letters], conflicts, ring);
-    SettledPart::Of(Ends {
+    Ends {
         letters,
         cycled: ends.cycled,
         rounds: ends.rounds,
-    })
+    }
 }

@@ -10,14 +10,11 @@ use Rattle.theory_conjugacy.specs.Rounds.{most-rounds}
 use Rattle.conjugacy_commands.specs.Flags.{Flags}
 use Rattle.conjugacy_settled_parts.specs.PartOf.{Labelled}
 
--- a core with its flags and labels: the rounds are as many as commands, and there is room, from place `at` on, for the
--- letters that so many rounds cycle
-pub record CoreOf (c : List ℕ) (conflicts : List (List ℕ)) (x fs labels : List ℕ) (rounds : ℕ) (row : List ℕ) (at : ℕ)
-    : Type 0 where
+-- a core with its flags and labels, and room, from place `at` on, for the letters that as many rounds as commands cycle
+pub record CoreOf (c : List ℕ) (conflicts : List (List ℕ)) (x fs labels row : List ℕ) (at : ℕ) : Type 0 where
   pub core : Labelled c conflicts x labels
   pub flags : Flags (commands (alphabet c) x) fs
-  pub enough : rounds ≡ Catalogue.commands c
-  pub room : at + rounds * length x ≤ length row
+  pub room : at + Catalogue.commands c * length x ≤ length row
 
 -- the largest number that the parts with these apexes need, or `most` if that is larger; the row is kept up to `at`
 pub record Counts (c x ms : List ℕ) (most : ℕ) (row row′ : List ℕ) (at n : ℕ) : Type 0 where

@@ -8,6 +8,7 @@ use mathlib.Core.Path.{_≡_, refl, sym, _∙_, ap, subst}
 use mathlib.Core.List.{List, [], _∷_}
 use lib.ListN.{length, take, getD}
 use lib.Seq.{take-take, take-at, length-take-le}
+use Rattle.spec.specs.Catalogue.{commands}
 use Rattle.spec.specs.Letters.{alphabet}
 use Rattle.theory_conjugacy.specs.Part.{part, label}
 use Rattle.theory_conjugacy.specs.CommandLaws.{Occurs, all-occurs, occurs-all}
@@ -27,13 +28,13 @@ pub counts-none : {c x ms row : List ℕ} {at : ℕ} → ms ≡ [] → Counts c 
 unfolding most-rounds
 counts-none e = record { count = rw e (omega arith); kept = refl }
 
-pub counts-settled : {c : List ℕ} {conflicts : List (List ℕ)} {x labels : List ℕ} {apex rounds : ℕ}
-    {word row row′ : List ℕ} {at : ℕ} {e : Ends} → PartOf c conflicts x labels apex rounds row at
-    → SettledOf c x apex rounds word row row′ at e → Counts c x (apex ∷ []) 0 row row′ at (e .rounds)
+pub counts-settled : {c : List ℕ} {conflicts : List (List ℕ)} {x labels : List ℕ} {apex : ℕ}
+    {word row row′ : List ℕ} {at : ℕ} {e : Ends} → PartOf c conflicts x labels apex row at
+    → SettledOf c x apex word row row′ at e → Counts c x (apex ∷ []) 0 row row′ at (e .rounds)
 unfolding most-rounds
 counts-settled {row = row} {row′} {at} {e} k s = record {
   count = omega (arith, settled-rounds k s);
-  kept = sym (take-take at (e .cycled) row′ (omega (arith, s .ended .end))) ∙ ap (take at) (s .ended .written)
+  kept = sym (take-take at (e .cycled) row′ (omega (arith, s .ended .ends))) ∙ ap (take at) (s .ended .written)
       ∙ take-at (take at row) _ at (length-take-le at row (omega (arith, k .room)));
 }
 
@@ -59,14 +60,13 @@ alone-rounds {c} {x = x} {labels = labels} k h n =
         go (no m) low u d = omega arith
 
 -- the part of command k + 1, which is its apex
-module _ {c : List ℕ} {conflicts : List (List ℕ)} {x fs labels : List ℕ} {rounds : ℕ} {row : List ℕ} {at : ℕ}
-    (h : CoreOf c conflicts x fs labels rounds row at) (k : ℕ) (l : k < 24) (a : Apex fs labels k) where
-  pub core-part : PartOf c conflicts x labels (getD labels k 0) rounds row at
+module _ {c : List ℕ} {conflicts : List (List ℕ)} {x fs labels row : List ℕ} {at : ℕ}
+    (h : CoreOf c conflicts x fs labels row at) (k : ℕ) (l : k < 24) (a : Apex fs labels k) where
+  pub core-part : PartOf c conflicts x labels (getD labels k 0) row at
   core-part = record {
     core = h .core;
     apical = apex-member c x (h .flags) (h .core .labelled) k l a;
-    enough = h .enough;
-    room = omega (arith, h .room, mul-le-mul-left rounds (part-short (h .core .cyclic) (getD labels k 0)));
+    room = omega (arith, h .room, mul-le-mul-left (commands c) (part-short (h .core .cyclic) (getD labels k 0)));
   }
 
   pub counts-alone : ((j : ℕ) → j < k → getD labels j 0 ≡ k + 1 → ⊥) → Counts c x (apexAt fs labels k) 0 row row at 0
@@ -83,35 +83,34 @@ module _ {c : List ℕ} {conflicts : List (List ℕ)} {x fs labels : List ℕ} {
 
 -- the loop: the larger of what is found and what the parts from command j + 1 on need is what is asked
 
-pub record Counting (conflicts : List (List ℕ)) (x fs labels : List ℕ) (k most rounds : ℕ) (row : List ℕ) (at : ℕ)
+pub record Counting (conflicts : List (List ℕ)) (x fs labels : List ℕ) (k most : ℕ) (row : List ℕ) (at : ℕ)
     (row′ : List ℕ) (found j : ℕ) : Type 0 where
   pub within : j ≤ 24
   pub many : length row′ ≡ length row
-  pub each : (c : List ℕ) → CoreOf c conflicts x fs labels rounds row at
+  pub each : (c : List ℕ) → CoreOf c conflicts x fs labels row at
       → Counts c x (apexesFrom fs labels (24 - k) k) most row row′ at
       (max found (most-rounds (alphabet c) (apexesFrom fs labels (24 - j) j) x))
 
-module _ {conflicts : List (List ℕ)} {x fs labels : List ℕ} {k most rounds : ℕ} {row : List ℕ} {at : ℕ} where
-  pub counting-start : k ≤ 24 → Counting conflicts x fs labels k most rounds row at row most k
+module _ {conflicts : List (List ℕ)} {x fs labels : List ℕ} {k most : ℕ} {row : List ℕ} {at : ℕ} where
+  pub counting-start : k ≤ 24 → Counting conflicts x fs labels k most row at row most k
   counting-start l = record { within = l; many = refl; each = λ c h. record { count = refl; kept = refl } }
 
-  module _ {row′ : List ℕ} {found j : ℕ} (s : Counting conflicts x fs labels k most rounds row at row′ found j) where
-    pub counting-core : {c : List ℕ} → CoreOf c conflicts x fs labels rounds row at
-        → CoreOf c conflicts x fs labels rounds row′ at
+  module _ {row′ : List ℕ} {found j : ℕ} (s : Counting conflicts x fs labels k most row at row′ found j) where
+    pub counting-core : {c : List ℕ} → CoreOf c conflicts x fs labels row at
+        → CoreOf c conflicts x fs labels row′ at
     counting-core h = record {
       core = h .core;
       flags = h .flags;
-      enough = h .enough;
       room = omega (arith, h .room, s .many);
     }
 
     pub counting-again : {row″ : List ℕ} {n found′ : ℕ} → j < 24 → length row″ ≡ length row′
-        → ((c : List ℕ) → CoreOf c conflicts x fs labels rounds row′ at
+        → ((c : List ℕ) → CoreOf c conflicts x fs labels row′ at
         → Counts c x (apexAt fs labels j) 0 row′ row″ at n)
-        → found′ ≡ max found n → Counting conflicts x fs labels k most rounds row at row″ found′ (j + 1)
+        → found′ ≡ max found n → Counting conflicts x fs labels k most row at row″ found′ (j + 1)
     counting-again {row″} {n} {found′} l m f e = record { within = omega arith; many = m ∙ s .many; each = each }
       where
-        each : (c : List ℕ) → CoreOf c conflicts x fs labels rounds row at
+        each : (c : List ℕ) → CoreOf c conflicts x fs labels row at
             → Counts c x (apexesFrom fs labels (24 - k) k) most row row″ at
             (max found′ (most-rounds (alphabet c) (apexesFrom fs labels (24 - (j + 1)) (j + 1)) x))
         each c h =
@@ -123,7 +122,7 @@ module _ {conflicts : List (List ℕ)} {x fs labels : List ℕ} {k most rounds :
               kept = t .kept ∙ s .each c h .kept;
             }
 
-    pub counting-end : 24 ≤ j → (c : List ℕ) → CoreOf c conflicts x fs labels rounds row at
+    pub counting-end : 24 ≤ j → (c : List ℕ) → CoreOf c conflicts x fs labels row at
         → Counts c x (apexesFrom fs labels (24 - k) k) most row row′ at found
     unfolding most-rounds
     counting-end l c h =

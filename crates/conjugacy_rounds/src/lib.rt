@@ -2,7 +2,6 @@
 // stands before that place is kept.
 
 use array_row::sheet;
-use conjugacy_settled_parts::SettledPart;
 use conjugacy_settled_parts::settle_part;
 ghost use Prim.Native.Nat.{ℕ, _+_, _-_, _<_, _≤_, max};
 ghost use mathlib.Core.Path.{_≡_};
@@ -50,26 +49,22 @@ fn alone(labels: &[u8; 24], k: usize) -> bool
     true
 }
 
-// The rounds that the core's part with this apex needs. As many as there are commands are enough for every part.
+// The rounds that the core's part with this apex needs.
 fn part_rounds(
     core: &[u8],
     labels: &[u8; 24],
     apex: u8,
-    rounds: usize,
     conflicts: &[[u16; 24]; 24],
     row: &mut [u8],
     at: usize,
 ) -> usize
-    requires { ⌜ ((c : List ℕ) × PartOf c (now conflicts) (now core) (now labels) apex rounds (now row) at) ⌝ }
+    requires { ⌜ ((c : List ℕ) × PartOf c (now conflicts) (now core) (now labels) apex (now row) at) ⌝ }
     ensures { λ r. ⌜ ((c : List ℕ)
-        → PartOf c (now (conflicts .entry)) (now (core .entry)) (now (labels .entry)) apex rounds (now (row .entry)) at
+        → PartOf c (now (conflicts .entry)) (now (core .entry)) (now (labels .entry)) apex (now (row .entry)) at
         → Counts c (now (core .entry)) (apex ∷ []) 0 (now (row .entry)) (now (row .exit)) at r) ⌝ }
 {
     let mut word = sheet();
-    let settled = settle_part(core, labels, apex, rounds, conflicts, &mut word, row, at);
-    let SettledPart::Of(ends) = settled else {
-        return 0;
-    };
+    let ends = settle_part(core, labels, apex, conflicts, &mut word, row, at);
     ends.rounds
 }
 
@@ -79,15 +74,14 @@ fn rounds_at(
     flags: &[u16; 24],
     labels: &[u8; 24],
     k: usize,
-    rounds: usize,
     conflicts: &[[u16; 24]; 24],
     row: &mut [u8],
     at: usize,
 ) -> usize
     requires { ⌜ (k < 24) × ((c : List ℕ)
-        × CoreOf c (now conflicts) (now core) (now flags) (now labels) rounds (now row) at) ⌝ }
+        × CoreOf c (now conflicts) (now core) (now flags) (now labels) (now row) at) ⌝ }
     ensures { λ r. ⌜ ((c : List ℕ)
-        → CoreOf c (now (conflicts .entry)) (now (core .entry)) (now (flags .entry)) (now (labels .entry)) rounds
+        → CoreOf c (now (conflicts .entry)) (now (core .entry)) (now (flags .entry)) (now (labels .entry))
         (now (row .entry)) at
         → Counts c (now (core .entry)) (apexAt (now (flags .entry)) (now (labels .entry)) k) 0 (now (row .entry))
         (now (row .exit)) at r) ⌝ }
@@ -98,7 +92,7 @@ fn rounds_at(
     if alone(labels, k) {
         return 0;
     }
-    part_rounds(core, labels, labels[k], rounds, conflicts, row, at)
+    part_rounds(core, labels, labels[k], conflicts, row, at)
 }
 
 // The largest number that a part needs whose apex is command k + 1 or a later one, or `most` if that is larger.
@@ -108,15 +102,14 @@ pub fn most_rounds(
     labels: &[u8; 24],
     k: usize,
     most: usize,
-    rounds: usize,
     conflicts: &[[u16; 24]; 24],
     row: &mut [u8],
     at: usize,
 ) -> usize
     requires { ⌜ (k ≤ 24) × ((c : List ℕ)
-        × CoreOf c (now conflicts) (now core) (now flags) (now labels) rounds (now row) at) ⌝ }
+        × CoreOf c (now conflicts) (now core) (now flags) (now labels) (now row) at) ⌝ }
     ensures { λ r. ⌜ ((c : List ℕ)
-        → CoreOf c (now (conflicts .entry)) (now (core .entry)) (now (flags .entry)) (now (labels .entry)) rounds
+        → CoreOf c (now (conflicts .entry)) (now (core .entry)) (now (flags .entry)) (now (labels .entry))
         (now (row .entry)) at
         → Counts c (now (core .entry)) (apexesFrom (now (flags .entry)) (now (labels .entry)) (24 - k) k) most
         (now (row .entry)) (now (row .exit)) at r) ⌝ }
@@ -124,7 +117,7 @@ pub fn most_rounds(
     let mut found = most;
     let mut j = k;
     while j < 24 {
-        let count = rounds_at(core, flags, labels, j, rounds, conflicts, row, at);
+        let count = rounds_at(core, flags, labels, j, conflicts, row, at);
         found = larger(found, count);
         j += 1;
     }

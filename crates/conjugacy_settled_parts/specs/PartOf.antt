@@ -1,7 +1,7 @@
 -- What settling one part of a core asks and gives.
 use Prim.Native.Nat.{ℕ, _+_, _*_, _≤_}
 use mathlib.Core.Path.{_≡_}
-use mathlib.Core.List.{List, []}
+use mathlib.Core.List.{List}
 use lib.ListN.{length, take}
 use Rattle.spec.specs.Catalogue.{commands}
 use Rattle.input_chains.specs.Conflicts.{Conflicts}
@@ -10,12 +10,9 @@ use Rattle.spec_laws.specs.LettersLaws.{Commands}
 use Rattle.theory_conjugacy.specs.Turn.{Round}
 use Rattle.theory_conjugacy.specs.AscendingLaws.{_∈_}
 use Rattle.theory_conjugacy.specs.Part.{label, apexes, part}
-use Rattle.theory_conjugacy.specs.Settle.{split, settled}
 use Rattle.conjugacy_labels.specs.Labels.{LabelsOf}
 use Rattle.conjugacy_settling.specs.Settling.{Ended}
 use Rattle.conjugacy_settled_parts.specs.declared.Ends.{Ends}
-use Rattle.conjugacy_settled_parts.specs.declared.SettledPart.{SettledPart}
-use Rattle.conjugacy_settled_parts.specs.declared.SettledPart.the-variants.{Of, Unsettled}
 
 -- a cyclically reduced word of commands of catalogue c, whose conflicts the table holds
 pub record Cyclic (c : List ℕ) (conflicts : List (List ℕ)) (x : List ℕ) : Type 0 where
@@ -30,23 +27,16 @@ pub record Labelled (c : List ℕ) (conflicts : List (List ℕ)) (x labels : Lis
   pub cyclic : Cyclic c conflicts x
   pub labelled : LabelsOf (label (alphabet c) x) labels
 
--- the apex is one of the core's, the rounds are as many as commands, and there is room, from place `at` on, for the
--- letters that so many rounds cycle
-pub record PartOf (c : List ℕ) (conflicts : List (List ℕ)) (x labels : List ℕ) (apex rounds : ℕ) (out : List ℕ) (at : ℕ)
+-- the apex is one of the core's, and there is room, from place `at` on, for the letters that as many rounds as commands
+-- cycle
+pub record PartOf (c : List ℕ) (conflicts : List (List ℕ)) (x labels : List ℕ) (apex : ℕ) (out : List ℕ) (at : ℕ)
     : Type 0 where
   pub core : Labelled c conflicts x labels
   pub apical : apex ∈ apexes (alphabet c) x
-  pub enough : rounds ≡ commands c
-  pub room : at + rounds * length (part (alphabet c) apex x) ≤ length out
+  pub room : at + commands c * length (part (alphabet c) apex x) ≤ length out
 
 -- the part, settled, stands at the start of `word`
-pub record SettledOf (c x : List ℕ) (apex rounds : ℕ) (word out out′ : List ℕ) (at : ℕ) (e : Ends) : Type 0 where
+pub record SettledOf (c x : List ℕ) (apex : ℕ) (word out out′ : List ℕ) (at : ℕ) (e : Ends) : Type 0 where
   pub many : e .letters ≡ length (part (alphabet c) apex x)
-  pub ended : Ended c apex rounds (part (alphabet c) apex x) (take (e .letters) word) out out′ at (e .cycled)
-      (e .rounds)
-
--- the part is settled, or so many rounds do not settle it
-abbrev pub Settles : List ℕ → List ℕ → ℕ → ℕ → List ℕ → List ℕ → List ℕ → ℕ → SettledPart → Type 0
-Settles c x apex rounds word out out′ at (Of e) = SettledOf c x apex rounds word out out′ at e
-Settles c x apex rounds word out out′ at Unsettled =
-    split (alphabet c) apex [] (settled (alphabet c) apex rounds (part (alphabet c) apex x)) .0 ≡ [] → ⊥
+  pub ended : Ended c apex (part (alphabet c) apex x) (take (e .letters) word) out out′ at
+      (record { end = e .cycled; rounds = e .rounds })

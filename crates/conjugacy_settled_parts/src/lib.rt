@@ -2,12 +2,11 @@
 
 use array_row::sheet;
 use conjugacy_parts::part;
-use conjugacy_settling::Settled;
 use conjugacy_settling::settle;
 ghost use Prim.Native.Nat.{ℕ, _≤_};
 ghost use mathlib.Core.List.{List};
 ghost use lib.ListN.{length};
-ghost use Rattle.conjugacy_settled_parts.specs.PartOf.{PartOf, Settles};
+ghost use Rattle.conjugacy_settled_parts.specs.PartOf.{PartOf, SettledOf};
 
 // How many letters a part has, the end of the letters that settling it cycled, and how many rounds that took.
 pub struct Ends {
@@ -16,31 +15,23 @@ pub struct Ends {
     pub rounds: usize,
 }
 
-// Whether the rounds were enough.
-pub enum SettledPart {
-    Of(Ends),
-    Unsettled,
-}
-
 // The core's part with this apex, settled, at the start of word, and from a place in cycled on the letters that
 // settling cycles.
 pub fn settle_part(
     core: &[u8],
     labels: &[u8; 24],
     apex: u8,
-    rounds: usize,
     conflicts: &[[u16; 24]; 24],
     word: &mut [u8],
     cycled: &mut [u8],
     at: usize,
-) -> SettledPart
-    requires { ⌜ ((c : List ℕ) × PartOf c (now conflicts) (now core) (now labels) apex rounds (now cycled) at)
+) -> Ends
+    requires { ⌜ ((c : List ℕ) × PartOf c (now conflicts) (now core) (now labels) apex (now cycled) at)
         × (length (now core) ≤ length (now word)) ⌝ }
     ensures { λ r. ⌜ ((c : List ℕ)
-        → PartOf c (now (conflicts .entry)) (now (core .entry)) (now (labels .entry)) apex rounds
+        → PartOf c (now (conflicts .entry)) (now (core .entry)) (now (labels .entry)) apex
         (now (cycled .entry)) at
-        → Settles c (now (core .entry)) apex rounds (now (word .exit)) (now (cycled .entry))
-        (now (cycled .exit)) at r) ⌝ }
+        → SettledOf c (now (core .entry)) apex (now (word .exit)) (now (cycled .entry)) (now (cycled .exit)) at r) ⌝ }
 {
     let mut low = sheet();
     let mut high = sheet();
@@ -48,19 +39,15 @@ pub fn settle_part(
     let settled = settle(
         &mut word[..n],
         apex as usize,
-        rounds,
         conflicts,
         &mut low,
         &mut high,
         cycled,
         at,
     );
-    let Settled::Done { end, rounds: count } = settled else {
-        return SettledPart::Unsettled;
-    };
-    SettledPart::Of(Ends {
+    Ends {
         letters: n,
-        cycled: end,
-        rounds: count,
-    })
+        cycled: settled.end,
+        rounds: settled.rounds,
+    }
 }

@@ -1,12 +1,14 @@
 -- What a round and the settling of a word ask and give.
-use Prim.Native.Nat.{ℕ, _+_, _*_, _≤_}
+use Prim.Native.Nat.{ℕ, _+_, _≤_}
 use mathlib.Core.Path.{_≡_}
-use mathlib.Core.List.{List, [], _++_}
+use mathlib.Core.List.{List, _++_}
 use lib.ListN.{length, take}
 use Rattle.spec.specs.Letters.{alphabet}
-use Rattle.theory_conjugacy.specs.Settle.{split, settled, cycled, counted}
+use Rattle.theory_conjugacy.specs.CommandLaws.{Occurs}
+use Rattle.theory_conjugacy.specs.PartLaws.{Connected}
+use Rattle.theory_conjugacy.specs.Settle.{Rounded}
+use Rattle.theory_conjugacy.specs.LeadIn.{settling}
 use Rattle.conjugacy_settling.specs.declared.Settled.{Settled}
-use Rattle.conjugacy_settling.specs.declared.Settled.the-variants.{Done, Unsettled}
 use Rattle.conjugacy_settling.specs.Halving.{Splittable}
 
 -- the halves have as many letters as the word, and `out` has room from place `at` on for the lower one
@@ -22,23 +24,18 @@ pub record Exchanged (word low : List ℕ) (lower : ℕ) (high : List ℕ) (uppe
   pub halves : word ≡ take upper high ++ take lower low
   pub written : take (at + lower) out′ ≡ take at out ++ take lower low
 
--- the word can be split, and `out` has room from place `at` on for what so many rounds cycle
-pub record Settleable (c word : List ℕ) (rounds : ℕ) (conflicts : List (List ℕ)) (low high out : List ℕ) (at : ℕ)
-    : Type 0 where
+-- the word can be split, it is connected and the apex occurs in it, and `out` has room from place `at` on for the
+-- letters that settling cycles
+pub record Settleable (c : List ℕ) (apex : ℕ) (word : List ℕ) (conflicts : List (List ℕ)) (low high out : List ℕ)
+    (at : ℕ) : Type 0 where
   pub splittable : Splittable c word conflicts low high
-  pub room : at + rounds * length word ≤ length out
+  pub connected : Connected (alphabet c) word
+  pub apex-occurs : Occurs (alphabet c) apex word
+  pub room : at + length (settling (alphabet c) apex word) ≤ length out
 
--- the word is settled in so many rounds, it took n, and the letters that they cycle end at e
-pub record Ended (c : List ℕ) (apex rounds : ℕ) (word word′ out out′ : List ℕ) (at e n : ℕ) : Type 0 where
-  pub still : split (alphabet c) apex [] (settled (alphabet c) apex rounds word) .0 ≡ []
-  pub reached : word′ ≡ settled (alphabet c) apex rounds word
-  pub written : take e out′ ≡ take at out ++ cycled (alphabet c) apex rounds word
-  pub end : e ≡ at + length (cycled (alphabet c) apex rounds word)
-  pub room : e ≤ at + rounds * length word
-  pub count : n ≡ counted (alphabet c) apex rounds word
-
--- done if the rounds are enough, and unsettled if not
-abbrev pub Answered : List ℕ → ℕ → ℕ → List ℕ → List ℕ → List ℕ → List ℕ → ℕ → Settled → Type 0
-Answered c apex rounds word word′ out out′ at (Done e n) = Ended c apex rounds word word′ out out′ at e n
-Answered c apex rounds word word′ out out′ at Unsettled =
-    split (alphabet c) apex [] (settled (alphabet c) apex rounds word) .0 ≡ [] → ⊥
+-- the word is settled as word′ after just the rounds told, and the letters that they cycle stand up to the end told
+pub record Ended (c : List ℕ) (apex : ℕ) (word word′ out out′ : List ℕ) (at : ℕ) (r : Settled) : Type 0 where
+  pub letters : List ℕ
+  pub rounded : Rounded (alphabet c) apex (r .rounds) word letters word′
+  pub written : take (r .end) out′ ≡ take at out ++ letters
+  pub ends : r .end ≡ at + length letters

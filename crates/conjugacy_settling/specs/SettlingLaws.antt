@@ -1,7 +1,6 @@
 -- Laws of a round and of the loop of rounds: what the copies of a round leave, and the loop's invariant.
-use Prim.Native.Nat.{ℕ, zero, suc, _+_, _-_, _*_, _≤_}
+use Prim.Native.Nat.{ℕ, _+_, _<_, _≤_}
 use native.Mathlib.Omega.{arith}
-use native.Mathlib.Nat.{suc-mul}
 use mathlib.Core.Path.{_≡_, refl, sym, _∙_, ap}
 use mathlib.Core.List.{List, [], _∷_, _++_, append-nil, append-assoc}
 use lib.ListN.{length, take, drop, length-append, length-drop, drop-of-length-le}
@@ -11,9 +10,10 @@ use Rattle.theory_words.specs.All.{All, all-along, all-append, all-left, all-ri
 use Rattle.theory_words.specs.TraceLaws.{~-length}
 use Rattle.input_plan.specs.Lettered.{Lettered}
 use Rattle.spec.specs.Letters.{alphabet}
-use Rattle.theory_conjugacy.specs.Settle.{split, settled, settled-step, cycled, cycled-step, counted}
-use Rattle.theory_conjugacy.specs.SettleLaws.{split-splits, split-~}
-use Rattle.theory_conjugacy.specs.RoundsLaws.{counted-quiet, counted-turn}
+use Rattle.theory_conjugacy.specs.Settle.{split, Rounded}
+use Rattle.theory_conjugacy.specs.SettleLaws.{split-splits, split-~, rounded-none, rounded-next}
+use Rattle.theory_conjugacy.specs.RoundLaws.{connected-rounded}
+use Rattle.theory_conjugacy.specs.LeadInLaws.{settling-cycled}
 use Rattle.conjugacy_settling.specs.declared.Halves.{Halves}
 use Rattle.conjugacy_settling.specs.Halving.{Splittable, Halved}
 use Rattle.array_row.specs.RowLaws.{appended-length}
@@ -24,11 +24,7 @@ length-zero : (w : List ℕ) → length w ≡ 0 → w ≡ []
 length-zero [] e = refl
 length-zero (b ∷ w) e = absurd (omega arith)
 
--- one factor less
-less : (n left : ℕ) → ¬ (left ≡ 0) → left * n ≡ (left - 1) * n + n
-less n left l = let e : left ≡ suc (left - 1) = omega arith in ap (λ (k : ℕ). k * n) e ∙ suc-mul (left - 1) n
-
--- the halves of a word, and rounds one by one
+-- the halves of a word
 
 module _ (Γ : Alphabet) (m : ℕ) where
   split-length : (w : Word Γ) → length (split Γ m [] w .0) + length (split Γ m [] w .1) ≡ length w
@@ -41,28 +37,6 @@ module _ (Γ : Alphabet) (m : ℕ) where
       let (p, q) = split Γ m [] w in
       let k : All P (p ++ q) = all-along Γ P (split-~ Γ m (split-splits Γ m [] w)) h in
       all-append P q p (all-right P p q k) (all-left P p q k)
-
-  settled-quiet : (n : ℕ) (w : Word Γ) → split Γ m [] w .0 ≡ [] → settled Γ m n w ≡ w
-  unfolding settled settled-step
-  settled-quiet zero w e = refl
-  settled-quiet (suc n) w e = rw e refl
-
-  cycled-quiet : (n : ℕ) (w : Word Γ) → split Γ m [] w .0 ≡ [] → cycled Γ m n w ≡ []
-  unfolding cycled cycled-step
-  cycled-quiet zero w e = refl
-  cycled-quiet (suc n) w e = rw e refl
-
-  -- a round that moves letters
-  rounds-turn : (n : ℕ) (w : Word Γ) → ¬ (split Γ m [] w .0 ≡ [])
-      → (let s = split Γ m [] w in (settled Γ m (suc n) w ≡ settled Γ m n (s .1 ++ s .0))
-      × (cycled Γ m (suc n) w ≡ s .0 ++ cycled Γ m n (s .1 ++ s .0)))
-  unfolding settled settled-step cycled cycled-step
-  rounds-turn n w o = go (split Γ m [] w .0) (split Γ m [] w .1) o
-    where
-      go : (p q : Word Γ) → ¬ (p ≡ []) → (settled-step Γ m w p q (settled Γ m n) ≡ settled Γ m n (q ++ p))
-          × (cycled-step Γ m p q (cycled Γ m n) ≡ p ++ cycled Γ m n (q ++ p))
-      go [] q o = absurd (o refl)
-      go (b ∷ p) q o = (refl, refl)
 
 -- a round
 
@@ -89,71 +63,67 @@ exchanged {word} {low} {lower} {high} {upper} {out} {at = at} x o e f = record {
 
 module _ {c : List ℕ} {apex : ℕ} {word low high low′ high′ : List ℕ} {ends : Halves}
     (h : Halved c apex word low high low′ high′ ends) where
-  halved-ends : ends .high + ends .low ≡ length word
-  halved-ends = omega (arith, split-length (alphabet c) apex word, h .lower .ends, h .upper .ends)
+  halved-whole : ends .high + ends .low ≡ length word
+  halved-whole = omega (arith, split-length (alphabet c) apex word, h .lower .ends, h .upper .ends)
 
   halved-none : ends .low ≡ 0 → split (alphabet c) apex [] word .0 ≡ []
   halved-none e = length-zero (split (alphabet c) apex [] word .0) (sym (starts-length (h .lower)) ∙ e)
 
-  halved-exchange : {conflicts : List (List ℕ)} {out : List ℕ} {at : ℕ} → Splittable c word conflicts low high
-      → at + length word ≤ length out → Exchange word low′ (ends .low) high′ (ends .high) out at
-  halved-exchange g l =
-      let e = appended-length (h .lower) (omega (arith, halved-ends, g .lower)) in
-      let f = appended-length (h .upper) (omega (arith, halved-ends, g .upper)) in
-      record {
-        whole = halved-ends;
-        lows = omega (arith, halved-ends, g .lower);
-        highs = omega (arith, halved-ends, g .upper);
-        room = omega (arith, halved-ends);
-      }
+  halved-some : 0 < ends .low → ¬ (split (alphabet c) apex [] word .0 ≡ [])
+  halved-some l e = omega (arith, h .lower .ends, ap length e)
 
 -- the loop
 
--- some rounds lead to this word, and more lead on from it, so many at most; g are the letters cycled
-pub record Reached (c : List ℕ) (apex rounds : ℕ) (word₀ out₀ : List ℕ) (at : ℕ) (word out : List ℕ) (end left : ℕ)
+-- so many rounds lead to this word; `done` are the letters that they cycle, and `more` those that the rounds left cycle
+pub record Reached (c : List ℕ) (apex : ℕ) (word₀ out₀ : List ℕ) (at : ℕ) (word out : List ℕ) (end rounds : ℕ)
     : Type 0 where
   pub letters : All Lettered word
-  pub g : List ℕ
-  pub written : take end out ≡ take at out₀ ++ g
-  pub ended : end ≡ at + length g
-  pub room : end + left * length word₀ ≤ at + rounds * length word₀
-  pub onward : settled (alphabet c) apex rounds word₀ ≡ settled (alphabet c) apex left word
-  pub more : cycled (alphabet c) apex rounds word₀ ≡ g ++ cycled (alphabet c) apex left word
-  pub count : counted (alphabet c) apex rounds word₀ ≡ (rounds - left) + counted (alphabet c) apex left word
+  pub done : List ℕ
+  pub written : take end out ≡ take at out₀ ++ done
+  pub ended : end ≡ at + length done
+  pub few : rounds ≤ length done
+  pub left : ℕ
+  pub more : List ℕ
+  pub last : List ℕ
+  pub onward : Rounded (alphabet c) apex left word more last
+  pub whole : Rounded (alphabet c) apex (rounds + left) word₀ (done ++ more) last
 
-pub record Rounds (word₀ : List ℕ) (apex rounds : ℕ) (conflicts : List (List ℕ)) (low₀ high₀ out₀ : List ℕ) (at : ℕ)
-    (word low high out : List ℕ) (end left : ℕ) : Type 0 where
+pub record Rounds (word₀ : List ℕ) (apex : ℕ) (conflicts : List (List ℕ)) (low₀ high₀ out₀ : List ℕ) (at : ℕ)
+    (word low high out : List ℕ) (end rounds : ℕ) : Type 0 where
   pub sameWord : length word ≡ length word₀
   pub sameLow : length low ≡ length low₀
   pub sameHigh : length high ≡ length high₀
   pub sameOut : length out ≡ length out₀
-  pub fewer : left ≤ rounds
-  pub reached : (c : List ℕ) → Settleable c word₀ rounds conflicts low₀ high₀ out₀ at
-      → Reached c apex rounds word₀ out₀ at word out end left
+  pub reached : (c : List ℕ) → Settleable c apex word₀ conflicts low₀ high₀ out₀ at
+      → Reached c apex word₀ out₀ at word out end rounds
 
-module _ {word₀ : List ℕ} {apex rounds : ℕ} {conflicts : List (List ℕ)} {low₀ high₀ out₀ : List ℕ} {at : ℕ} where
-  pub rounds-start : Rounds word₀ apex rounds conflicts low₀ high₀ out₀ at word₀ low₀ high₀ out₀ at rounds
+module _ {word₀ : List ℕ} {apex : ℕ} {conflicts : List (List ℕ)} {low₀ high₀ out₀ : List ℕ} {at : ℕ} where
+  pub rounds-start : Rounds word₀ apex conflicts low₀ high₀ out₀ at word₀ low₀ high₀ out₀ at 0
   rounds-start = record {
     sameWord = refl;
     sameLow = refl;
     sameHigh = refl;
     sameOut = refl;
-    fewer = omega arith;
-    reached = λ c g. record {
-      letters = g .splittable .letters;
-      g = [];
-      written = sym (append-nil (take at out₀));
-      ended = omega arith;
-      room = omega arith;
-      onward = refl;
-      more = refl;
-      count = omega arith;
-    };
+    reached = λ c g.
+        let (n, z, r, o, l) = connected-rounded (alphabet c) apex word₀ (g .connected) (g .apex-occurs) in
+        let e : 0 + n ≡ n = omega arith in
+        record {
+          letters = g .splittable .letters;
+          done = [];
+          written = sym (append-nil (take at out₀));
+          ended = omega arith;
+          few = omega arith;
+          left = n;
+          more = z;
+          last = r;
+          onward = o;
+          whole = rw e o;
+        };
   }
 
-  module _ {word low high out : List ℕ} {end left : ℕ}
-      (r : Rounds word₀ apex rounds conflicts low₀ high₀ out₀ at word low high out end left) where
-    pub rounds-splittable : {c : List ℕ} → Settleable c word₀ rounds conflicts low₀ high₀ out₀ at
+  module _ {word low high out : List ℕ} {end rounds : ℕ}
+      (r : Rounds word₀ apex conflicts low₀ high₀ out₀ at word low high out end rounds) where
+    pub rounds-splittable : {c : List ℕ} → Settleable c apex word₀ conflicts low₀ high₀ out₀ at
         → Splittable c word conflicts low high
     rounds-splittable {c} g = record {
       letters = r .reached c g .letters;
@@ -162,89 +132,95 @@ module _ {word₀ : List ℕ} {apex rounds : ℕ} {conflicts : List (List ℕ)} 
       upper = omega (arith, r .sameWord, r .sameHigh, g .splittable .upper);
     }
 
-    rounds-room : {c : List ℕ} → Settleable c word₀ rounds conflicts low₀ high₀ out₀ at → ¬ (left ≡ 0)
-        → end + length word ≤ length out
-    rounds-room {c} g l =
-        let e : left * length word₀ ≡ (left - 1) * length word₀ + length word₀ = less (length word₀) left l in
-        omega (arith, r .reached c g .room, g .room, r .sameWord, r .sameOut)
+    -- each round cycles a letter at least
+    pub rounds-few : {c : List ℕ} → Settleable c apex word₀ conflicts low₀ high₀ out₀ at → rounds ≤ end
+    rounds-few {c} g = let t = r .reached c g in omega (arith, t .few, t .ended)
 
     module _ {low′ high′ : List ℕ} {ends : Halves}
         (f : (c : List ℕ) → Splittable c word conflicts low high → Halved c apex word low high low′ high′ ends) where
-      pub rounds-exchange : {c : List ℕ} → Settleable c word₀ rounds conflicts low₀ high₀ out₀ at → ¬ (left ≡ 0)
-          → Exchange word low′ (ends .low) high′ (ends .high) out end
-      rounds-exchange {c} g l = let s = rounds-splittable g in halved-exchange (f c s) s (rounds-room g l)
-
-      pub rounds-done : ends .low ≡ 0 → (c : List ℕ) → Settleable c word₀ rounds conflicts low₀ high₀ out₀ at
-          → Ended c apex rounds word₀ word out₀ out at end (rounds - left)
-      rounds-done e c g =
-          let t = r .reached c g in
+      -- what is low is among the letters that there is room for
+      rounds-room : {c : List ℕ} → Settleable c apex word₀ conflicts low₀ high₀ out₀ at → 0 < ends .low
+          → end + ends .low ≤ length out
+      rounds-room {c} g l =
           let Γ = alphabet c in
-          let z = halved-none (f c (rounds-splittable g)) e in
-          let s : settled Γ apex rounds word₀ ≡ word = t .onward ∙ settled-quiet Γ apex left word z in
-          let y : cycled Γ apex rounds word₀ ≡ t .g =
-          t .more ∙ ap (λ (x : List ℕ). t .g ++ x) (cycled-quiet Γ apex left word z) ∙ append-nil (t .g) in
+          let t = r .reached c g in
+          let h = f c (rounds-splittable g) in
+          let d = settling-cycled Γ (g .connected) (g .apex-occurs) (t .whole) in
+          let (k, z, i, j, o) = rounded-next Γ apex (t .onward) (halved-some h l) in
+          omega (
+            arith,
+            g .room,
+            r .sameOut,
+            t .ended,
+            h .lower .ends,
+            ap length d,
+            length-append (t .done) (t .more),
+            ap length j,
+            length-append (split Γ apex [] word .0) z,
+          )
+
+      pub rounds-exchange : {c : List ℕ} → Settleable c apex word₀ conflicts low₀ high₀ out₀ at → 0 < ends .low
+          → Exchange word low′ (ends .low) high′ (ends .high) out end
+      rounds-exchange {c} g l =
+          let s = rounds-splittable g in
+          let h = f c s in
+          let w = halved-whole h in
+          let a = appended-length (h .lower) (omega (arith, w, s .lower)) in
+          let b = appended-length (h .upper) (omega (arith, w, s .upper)) in
           record {
-            still = rw s z;
-            reached = sym s;
-            written = rw y (t .written);
-            end = rw y (t .ended);
-            room = omega (arith, t .room);
-            count = omega (arith, t .count, counted-quiet Γ apex left word z);
+            whole = w;
+            lows = omega (arith, w, s .lower);
+            highs = omega (arith, w, s .upper);
+            room = rounds-room g l;
           }
 
-      pub rounds-unsettled : left ≡ 0 → ¬ (ends .low ≡ 0) → (c : List ℕ)
-          → Settleable c word₀ rounds conflicts low₀ high₀ out₀ at
-          → split (alphabet c) apex [] (settled (alphabet c) apex rounds word₀) .0 ≡ [] → ⊥
-      unfolding settled
-      rounds-unsettled z n c g e =
-          let s : settled (alphabet c) apex rounds word₀ ≡ word =
-          r .reached c g .onward ∙ ap (λ (k : ℕ). settled (alphabet c) apex k word) z in
-          let k : split (alphabet c) apex [] word .0 ≡ [] = rw s at e in
-          n (starts-length (f c (rounds-splittable g) .lower) ∙ ap length k)
+      pub rounds-done : ends .low ≡ 0 → (c : List ℕ) → Settleable c apex word₀ conflicts low₀ high₀ out₀ at
+          → Ended c apex word₀ word out₀ out at (record { end = end; rounds = rounds })
+      rounds-done e c g =
+          let t = r .reached c g in
+          let (i, j, k) = rounded-none (alphabet c) apex (t .onward) (halved-none (f c (rounds-splittable g)) e) in
+          let n : rounds + t .left ≡ rounds = omega (arith, i) in
+          let d : t .done ++ t .more ≡ t .done = ap (λ (u : List ℕ). t .done ++ u) j ∙ append-nil (t .done) in
+          record {
+            letters = t .done;
+            rounded = rw (n, d, k) at (t .whole);
+            written = t .written;
+            ends = t .ended;
+          }
 
-      pub rounds-again : {word′ out′ : List ℕ} → ¬ (left ≡ 0) → ¬ (ends .low ≡ 0) → length word′ ≡ length word
+      pub rounds-again : {word′ out′ : List ℕ} → 0 < ends .low → length word′ ≡ length word
           → length low′ ≡ length low → length high′ ≡ length high → length out′ ≡ length out
           → Exchanged word′ low′ (ends .low) high′ (ends .high) out out′ end
-          → Rounds word₀ apex rounds conflicts low₀ high₀ out₀ at word′ low′ high′ out′ (end + ends .low) (left - 1)
-      rounds-again {word′} {out′} l n a b d e x = record {
+          → Rounds word₀ apex conflicts low₀ high₀ out₀ at word′ low′ high′ out′ (end + ends .low) (rounds + 1)
+      rounds-again {word′} {out′} l a b d e x = record {
         sameWord = a ∙ r .sameWord;
         sameLow = b ∙ r .sameLow;
         sameHigh = d ∙ r .sameHigh;
         sameOut = e ∙ r .sameOut;
-        fewer = omega (arith, r .fewer);
         reached = λ c g. go c (r .reached c g) (f c (rounds-splittable g));
       }
         where
-          go : (c : List ℕ) → Reached c apex rounds word₀ out₀ at word out end left
+          go : (c : List ℕ) → Reached c apex word₀ out₀ at word out end rounds
               → Halved c apex word low high low′ high′ ends
-              → Reached c apex rounds word₀ out₀ at word′ out′ (end + ends .low) (left - 1)
+              → Reached c apex word₀ out₀ at word′ out′ (end + ends .low) (rounds + 1)
           go c t h =
               let Γ = alphabet c in
               let (p, q) = split Γ apex [] word in
-              let o : ¬ (p ≡ []) = λ z. n (starts-length (h .lower) ∙ ap length z) in
-              let k : left ≡ suc (left - 1) = omega arith in
-              let (s, y) = rounds-turn Γ apex (left - 1) word o in
+              let (k, z, i, j, o) = rounded-next Γ apex (t .onward) (halved-some h l) in
               let v : word′ ≡ q ++ p = rw (starts-take (h .lower), starts-take (h .upper)) at (x .halves) in
               let w : take (end + ends .low) out′ ≡ take end out ++ p = rw (starts-take (h .lower)) at (x .written) in
+              let n : rounds + t .left ≡ rounds + 1 + k = omega arith in
+              let y : t .done ++ t .more ≡ (t .done ++ p) ++ z =
+              ap (λ (u : List ℕ). t .done ++ u) j ∙ sym (append-assoc (t .done) p z) in
               record {
                 letters = rw v (split-exchanged Γ apex Lettered word (t .letters));
-                g = t .g ++ p;
-                written = w ∙ ap (λ (z : List ℕ). z ++ p) (t .written) ∙ append-assoc (take at out₀) (t .g) p;
-                ended = omega (arith, length-append (t .g) p, t .ended, h .lower .ends);
-                room = omega (arith, t .room, halved-ends h, r .sameWord, less (length word₀) left l);
-                onward =
-                    t .onward ∙ ap (λ (i : ℕ). settled Γ apex i word) k ∙ s ∙ ap (settled Γ apex (left - 1)) (sym v);
-                more =
-                    t .more
-                    ∙ ap (λ (i : ℕ). t .g ++ cycled Γ apex i word) k
-                    ∙ ap (λ (z : List ℕ). t .g ++ z) (y ∙ ap (λ (z : List ℕ). p ++ cycled Γ apex (left - 1) z) (sym v))
-                    ∙ sym (append-assoc (t .g) p (cycled Γ apex (left - 1) word′));
-                count = omega (
-                  arith,
-                  t .count,
-                  r .fewer,
-                  ap (λ (i : ℕ). counted Γ apex i word) k,
-                  counted-turn Γ apex (left - 1) word o,
-                  ap (counted Γ apex (left - 1)) v,
-                );
+                done = t .done ++ p;
+                written = w ∙ ap (λ (u : List ℕ). u ++ p) (t .written) ∙ append-assoc (take at out₀) (t .done) p;
+                ended = omega (arith, length-append (t .done) p, t .ended, h .lower .ends);
+                few = omega (arith, length-append (t .done) p, t .few, h .lower .ends);
+                left = k;
+                more = z;
+                last = t .last;
+                onward = rw v o;
+                whole = rw (← n, ← y) (t .whole);
               }

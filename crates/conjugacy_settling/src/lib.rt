@@ -10,7 +10,7 @@ ghost use mathlib.Core.List.{List};
 ghost use lib.ListN.{length};
 ghost use lib.Seq.{paste};
 ghost use Rattle.conjugacy_settling.specs.Halving.{Place, Placed, Splittable, Halved};
-ghost use Rattle.conjugacy_settling.specs.Settling.{Exchange, Exchanged, Settleable, Answered};
+ghost use Rattle.conjugacy_settling.specs.Settling.{Exchange, Exchanged, Settleable, Ended};
 
 // How many letters each half of a split has.
 struct Halves {
@@ -18,10 +18,10 @@ struct Halves {
     high: usize,
 }
 
-// Whether the rounds were enough, and then the end of the letters that they cycled and how many it took.
-pub enum Settled {
-    Done { end: usize, rounds: usize },
-    Unsettled,
+// The end of the letters that settling cycled, and how many rounds it took.
+pub struct Settled {
+    pub end: usize,
+    pub rounds: usize,
 }
 
 // One letter goes to its half. If it goes to the upper one its command is raised.
@@ -114,11 +114,10 @@ fn round(
     copy(low, lower, word, upper);
 }
 
-// The word settled in so many rounds at most, and the letters that they cycle, from a place in cycled on.
+// The connected word settled on its apex, and the letters that the rounds cycle, from a place in cycled on.
 pub fn settle(
     word: &mut [u8],
     apex: usize,
-    rounds: usize,
     conflicts: &[[u16; 24]; 24],
     low: &mut [u8],
     high: &mut [u8],
@@ -126,27 +125,22 @@ pub fn settle(
     at: usize,
 ) -> Settled
     requires { ⌜ ((c : List ℕ)
-        × Settleable c (now word) rounds (now conflicts) (now low) (now high) (now cycled) at) ⌝ }
+        × Settleable c apex (now word) (now conflicts) (now low) (now high) (now cycled) at) ⌝ }
     ensures { λ r. ⌜ ((c : List ℕ)
-        → Settleable c (now (word .entry)) rounds (now (conflicts .entry)) (now (low .entry)) (now (high .entry))
+        → Settleable c apex (now (word .entry)) (now (conflicts .entry)) (now (low .entry)) (now (high .entry))
         (now (cycled .entry)) at
-        → Answered c apex rounds (now (word .entry)) (now (word .exit)) (now (cycled .entry)) (now (cycled .exit)) at r)
-        ⌝ }
+        → Ended c apex (now (word .entry)) (now (word .exit)) (now (cycled .entry)) (now (cycled .exit)) at r) ⌝ }
 {
     let mut end = at;
-    let mut left = rounds;
+    let mut rounds = 0;
     loop {
         let ends = split(word, apex, conflicts, low, high);
         let lower = ends.low;
         if lower == 0 {
-            let count = rounds - left;
-            return Settled::Done { end, rounds: count };
-        }
-        if left == 0 {
-            return Settled::Unsettled;
+            return Settled { end, rounds };
         }
         round(word, low, lower, high, ends.high, cycled, end);
         end += lower;
-        left -= 1;
+        rounds += 1;
     }
 }

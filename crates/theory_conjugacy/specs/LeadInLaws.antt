@@ -3,7 +3,7 @@ use Prim.Native.Nat.{ℕ, suc, _+_, _*_, _-_, _≤_, _<_, max}
 use native.Mathlib.Nat.{add-mul, mul-one, mul-le-mul-left}
 use native.Mathlib.Omega.{arith}
 use mathlib.Core.Path.{_≡_, refl, sym, _∙_, ap, subst}
-use mathlib.Core.Bool.{true, false, true≢false}
+use mathlib.Core.Bool.{true, true≢false}
 use mathlib.Core.List.{[], _∷_, _++_}
 use mathlib.Core.Option.{Option, none, some}
 use lib.ListN.{length, take, drop, length-append, length-take, take-append-drop}
@@ -18,7 +18,7 @@ use Rattle.theory_words.specs.GroupLaws.{undo-length}
 use Rattle.theory_words.specs.Normal.{lex}
 use Rattle.theory_conjugacy.specs.TurnLaws.{turns-length}
 use Rattle.theory_conjugacy.specs.Part.{commands, apexes, part}
-use Rattle.theory_conjugacy.specs.Settle.{settled, cycled, ring}
+use Rattle.theory_conjugacy.specs.Settle.{Rounded, ring}
 use Rattle.theory_conjugacy.specs.SettleLaws.{rounded-settled}
 use Rattle.theory_conjugacy.specs.Rotation.{rotation, Rotated}
 use Rattle.theory_conjugacy.specs.RotationLaws.{rotation-some, rotation-none, rotation-rotated, rotated-length}
@@ -26,7 +26,7 @@ use Rattle.theory_conjugacy.specs.RingLaws.{Leads, rest, step, Under, ri
 use Rattle.theory_conjugacy.specs.AscendingLaws.{_∈_}
 use Rattle.theory_conjugacy.specs.CommandLaws.{Occurs, occurs-all, occurs-length}
 use Rattle.theory_conjugacy.specs.PartLaws.{Connected, part-connected, part-largest, apex-occurs}
-use Rattle.theory_conjugacy.specs.RoundLaws.{connected-rounded, rounded-length}
+use Rattle.theory_conjugacy.specs.RoundLaws.{connected-rounded, rounded-bound, rounded-length}
 use Rattle.theory_conjugacy.specs.Decision.{found?, settled-ring, rotated?}
 use Rattle.theory_conjugacy.specs.LeadIn.{place, settling, part-lead}
 
@@ -85,16 +85,21 @@ module _ (Γ : Alphabet) where
       (rounded-length Γ m (a .apex) o) in
       rw f i
 
-  -- with that many commands n rounds are enough for the ring and for the letters cycled
-  pub settling-enough : {m : ℕ} {p : Word Γ} → Apical m p → (n : ℕ) → length (commands Γ p) ≤ suc n
-      → (ring Γ m n p ≡ settled-ring Γ m p) × (cycled Γ m n p ≡ settling Γ m p)
-  unfolding ring settled-ring settling
-  settling-enough {m} {p} a n h =
-      let (j, g, r, o, k) = connected-rounded Γ m p (a .whole) (a .apex) in
-      let (e, f) = rounded-settled Γ m o n (omega arith) in
-      let (e′, f′) = rounded-settled Γ m o (length (commands Γ p)) (omega arith) in
-      let d : settled Γ m n p ≡ settled Γ m (length (commands Γ p)) p = e ∙ sym e′ in
-      (ap (λ (x : Word Γ). lex Γ (length x) x) d, f ∙ sym f′)
+  -- the letters that settling cycles, and its ring, from its rounds
+
+  pub settling-cycled : {m n : ℕ} {p g r : Word Γ} → Connected Γ p → Occurs Γ m p → Rounded Γ m n p g r
+      → settling Γ m p ≡ g
+  unfolding settling
+  settling-cycled {m} {p = p} h a o =
+      let l = rounded-bound Γ m h a o in
+      rounded-settled Γ m o (length (commands Γ p)) (omega arith) .1
+
+  pub settling-ring : {m n : ℕ} {p g r : Word Γ} → Connected Γ p → Occurs Γ m p → Rounded Γ m n p g r
+      → settled-ring Γ m p ≡ lex Γ (length r) r
+  unfolding ring settled-ring
+  settling-ring {m} {p = p} h a o =
+      let l = rounded-bound Γ m h a o in
+      ap (λ (x : Word Γ). lex Γ (length x) x) (rounded-settled Γ m o (length (commands Γ p)) (omega arith) .0)
 
   pub ring-length : {m : ℕ} {p : Word Γ} → Apical m p → length (settled-ring Γ m p) ≡ length p
   ring-length {m} a = sym (turns-length Γ (leads-to-turns Γ m (settling-leads a)))

@@ -168,7 +168,7 @@ module _ (Γ : Alphabet) (m : ℕ) where
   rounded-quiet (round s o) = rounded-quiet o
 
   -- so k rounds leave nothing to cycle where no more than k + 1 commands occur
-  pub settled-quiet : (w : Word Γ) → Connected Γ w → Occurs Γ m w → (k : ℕ) → length (commands Γ w) ≤ suc k
+  settled-quiet : (w : Word Γ) → Connected Γ w → Occurs Γ m w → (k : ℕ) → length (commands Γ w) ≤ suc k
       → split Γ m [] (settled Γ m k w) .0 ≡ []
   settled-quiet w h a k l =
       let (n, g, r, o, f) = connected-rounded w h a in

@@ -22,27 +22,16 @@ use Rattle.theory_conjugacy.specs.HalvesLaws.{counted-along}
 use Rattle.theory_conjugacy.specs.AscendingLaws.{_∈_, Placed, below, above, equal, placed}
 use Rattle.theory_conjugacy.specs.CommandLaws.{now, commands-turns}
 use Rattle.theory_conjugacy.specs.PartLaws.{part-connected, apex-occurs, label-same, apexes-same, label-apex}
-use Rattle.theory_conjugacy.specs.RoundLaws.{connected-rounded}
+use Rattle.theory_conjugacy.specs.RoundLaws.{connected-rounded, rounded-bound}
 use Rattle.theory_conjugacy.specs.Rounds.{part-rounds, most-rounds, core-rounds}
 
 module _ (Γ : Alphabet) (m : ℕ) where
   open Alphabet Γ using (cmd)
 
-  -- one round
-
-  pub counted-quiet : (n : ℕ) (w : Word Γ) → split Γ m [] w .0 ≡ [] → counted Γ m n w ≡ zero
+  counted-quiet : (n : ℕ) (w : Word Γ) → split Γ m [] w .0 ≡ [] → counted Γ m n w ≡ zero
   unfolding counted counted-step
   counted-quiet zero w e = refl
   counted-quiet (suc n) w e = rw e refl
-
-  pub counted-turn : (n : ℕ) (w : Word Γ) → ¬ (split Γ m [] w .0 ≡ [])
-      → (let s = split Γ m [] w in counted Γ m (suc n) w ≡ suc (counted Γ m n (s .1 ++ s .0)))
-  unfolding counted counted-step
-  counted-turn n w o = go (split Γ m [] w .0) (split Γ m [] w .1) o
-    where
-      go : (p q : Word Γ) → ¬ (p ≡ []) → counted-step Γ m p q (counted Γ m n) ≡ suc (counted Γ m n (q ++ p))
-      go [] q o = absurd (o refl)
-      go (b ∷ p) q o = refl
 
   -- the number is that of the relation, counted far enough
   pub rounded-counted : {n : ℕ} {w g r : Word Γ} → Rounded Γ m n w g r → (k : ℕ) → n ≤ k → counted Γ m k w ≡ n
@@ -62,6 +51,13 @@ module _ (Γ : Alphabet) (m : ℕ) where
       let p = part Γ m x in
       let (n, g, r, o, l) = connected-rounded Γ m p (part-connected Γ m x) (apex-occurs Γ x i) in
       rounded-counted o k (omega arith) ∙ sym (rounded-counted o (length (commands Γ p)) (omega arith))
+
+  pub part-rounded : (x : Word Γ) → m ∈ apexes Γ x → {n : ℕ} {g r : Word Γ} → Rounded Γ m n (part Γ m x) g r
+      → part-rounds Γ m x ≡ n
+  unfolding part-rounds
+  part-rounded x i o =
+      let l = rounded-bound Γ m (part-connected Γ m x) (apex-occurs Γ x i) o in
+      rounded-counted o (length (commands Γ (part Γ m x))) (omega arith)
 
   -- a part with s commands never needs more than s - 1 rounds
   pub part-rounds-few : (x : Word Γ) → m ∈ apexes Γ x → part-rounds Γ m x < length (commands Γ (part Γ m x))

@@ -2,10 +2,11 @@
 -- compute the relations, and a settled word is reached by cyclings.
 use Prim.Native.Nat.{ℕ, zero, suc, _≤_}
 use native.Mathlib.Omega.{arith}
-use mathlib.Core.Path.{_≡_, refl, sym, _∙_, ap, subst}
+use mathlib.Core.Path.{_≡_, refl, sym, _∙_, ap}
 use mathlib.Core.Bool.{Bool, true, false, true≢false, _||_}
 use mathlib.Core.Logic.{_⊎_, inl, inr}
 use mathlib.Core.List.{List, [], _∷_, _++_}
+use lib.ListN.{length}
 use lib.Dec.{eqb}
 use borrow.Author.Tests.{eqb-true, eqb-false}
 use Rattle.theory_words.specs.BoolLaws.{or-either, or-neither}
@@ -17,7 +18,7 @@ use Rattle.theory_words.specs.TraceLaws.{dep-sym, ~-sym, first-along, Apart, ap
 use Rattle.theory_words.specs.Filter.{keepIf}
 use Rattle.theory_words.specs.Normal.{meets}
 use Rattle.theory_conjugacy.specs.Turn.{Turns, same, also}
-use Rattle.theory_conjugacy.specs.TurnLaws.{turns-refl, turns-rotate}
+use Rattle.theory_conjugacy.specs.TurnLaws.{turns-refl, turns-rotate, turns-length}
 use Rattle.theory_conjugacy.specs.Settle.{hit, put, split, settled, settled-step, cycled, cycled-step}
 use Rattle.theory_conjugacy.specs.Settle.{Split, stop, up, low, Rounded, quiet, round}
 
@@ -145,26 +146,23 @@ module _ (Γ : Alphabet) (m : ℕ) where
       let (x, y) = rounded-settled o k (omega arith) in
       (rw (e, f) x, rw (e, f) (ap (λ (z : Word Γ). b ∷ p ++ z) y))
 
-  -- and if they leave nothing to cycle, the rounds were enough
-  pub settled-rounded : (k : ℕ) (w : Word Γ) → split Γ m [] (settled Γ m k w) .0 ≡ []
-      → (n : ℕ) × (n ≤ k) × Rounded Γ m n w (cycled Γ m k w) (settled Γ m k w)
-  unfolding settled settled-step cycled cycled-step
-  settled-rounded zero w e =
-      let s = split Γ m [] w in
-      (zero, omega arith, quiet (subst (λ (p : Word Γ). Split Γ m [] w p (s .1)) e (split-splits [] w)))
-  settled-rounded (suc k) w e =
-      let s = split Γ m [] w in
-      go (s .0) (s .1) (split-splits [] w) e (settled-rounded k (s .1 ++ s .0))
-    where
-      go : (p q : Word Γ) → Split Γ m [] w p q → split Γ m [] (settled-step Γ m w p q (settled Γ m k)) .0 ≡ []
-          → (split Γ m [] (settled Γ m k (q ++ p)) .0 ≡ []
-          → (n : ℕ) × (n ≤ k) × Rounded Γ m n (q ++ p) (cycled Γ m k (q ++ p)) (settled Γ m k (q ++ p)))
-          → (n : ℕ) × (n ≤ suc k) × Rounded Γ m n w (cycled-step Γ m p q (cycled Γ m k))
-          (settled-step Γ m w p q (settled Γ m k))
-      go [] q s e ih = (zero, omega arith, quiet s)
-      go (b ∷ p) q s e ih = let (n, h, o) = ih e in (suc n, omega arith, round s o)
+  -- none where nothing is low, and else one and more behind it
+
+  pub rounded-none : {n : ℕ} {w g r : Word Γ} → Rounded Γ m n w g r → split Γ m [] w .0 ≡ []
+      → (n ≡ 0) × (g ≡ []) × (r ≡ w)
+  rounded-none (quiet s) e = (refl, refl, refl)
+  rounded-none (round s o) e = absurd (omega (arith, ap length (sym (split-unique s .0) ∙ e)))
+
+  pub rounded-next : {n : ℕ} {w g r : Word Γ} → Rounded Γ m n w g r → ¬ (split Γ m [] w .0 ≡ [])
+      → (let s = split Γ m [] w in
+      (k : ℕ) × (h : Word Γ) × (n ≡ suc k) × (g ≡ s .0 ++ h) × Rounded Γ m k (s .1 ++ s .0) h r)
+  rounded-next (quiet s) n = absurd (n (split-unique s .0))
+  rounded-next (round {n = k} {g = h} s o) n = let (e, f) = split-unique s in rw (e, f) (k, h, refl, refl, o)
 
   pub rounded-turns : {n : ℕ} {w g r : Word Γ} → Rounded Γ m n w g r → Turns Γ w r
   rounded-turns {w = w} (quiet s) = turns-refl Γ w
   rounded-turns (round {b = b} {p = p} {q = q} s o) =
       also (same (split-~ s)) (also (turns-rotate Γ (b ∷ p) q) (rounded-turns o))
+
+  pub rounded-as-long : {n : ℕ} {w g r : Word Γ} → Rounded Γ m n w g r → length r ≡ length w
+  rounded-as-long o = sym (turns-length Γ (rounded-turns o))

@@ -5,7 +5,8 @@ use mathlib.Core.List.{List}
 use native.Mathlib.Omega.{arith}
 use Rattle.spec.specs.Loops.{Looped}
 use Rattle.conjugacy_by_cores.specs.Join.{Plans}
-use Rattle.call_loops.specs.LoopingLaws.{loops-refused, loops-plans, loops-fits, loops-small, loops-told}
+use Rattle.call_loops.specs.LoopingLaws.{loops-refused, loops-plans, loops-room, loops-fits, loops-small}
+use Rattle.call_loops.specs.LoopingLaws.{loops-told}
 use borrow.Author.Needs.{needs}
 use Rattle.call_loops.proofs.loops.Statement.{statement}
 use Rattle.call_loops.proofs.loops.Tie as tie
@@ -24,7 +25,7 @@ cat k = start (checks k) .args .catalogue .now
 
 -- the plans have passed
 plans : (k : tie.After-known-told) → Plans (cat k) (checks k .two-plans .last .1 .1 .1 .0)
-    (start (checks k) .args .v .now) (start (checks k) .args .w .now) (k .before .checked .given .0 .0)
+    (start (checks k) .args .v .now) (start (checks k) .args .w .now)
 plans k = loops-plans (checks k .two-plans .ensures) (area (checks k)) (k .before .checked .given .1)
 
 returns : tie.Need-returns
@@ -47,21 +48,25 @@ returns-2 c =
 join-plans-requires : tie.Need-join-plans-requires
 join-plans-requires c κs =
     let i = c .before .before in
-    let p = plans (i .before) in
-    (cat (i .before), p, i .if1 .left)
+    let k = i .before in
+    let d = checks k .two-plans .ensures in
+    let a = area (checks k) in
+    let f = k .before .checked .given .1 in
+    (cat k, plans k, loops-room d a f (i .if1 .left))
 
 returns-3 : tie.Need-returns-3
 returns-3 c =
     let j = c .before .before .before in
     let i = j .before .before .before in
     let k = i .before in
-    let e = checks k in
-    let s = start e in
-    let p = plans k in
-    subst (λ t. Looped (cat k) (s .args .v .now) (s .args .w .now) (area e) t (j .join-plans .last .1 .1 .1 .1 .0))
+    let s = start (checks k) in
+    let d = checks k .two-plans .ensures in
+    let a = area (checks k) in
+    let f = k .before .checked .given .1 in
+    subst (λ t. Looped (cat k) (s .args .v .now) (s .args .w .now) a t (j .join-plans .last .1 .1 .1 .1 .0))
     (sym (c .verdict .ensures))
-    (loops-told (e .two-plans .ensures) (area e) (k .before .checked .given .1) (i .if1 .left)
-    (j .join-plans .ensures (cat k) p))
+    (loops-told d a f (i .if1 .left)
+    (j .join-plans .ensures (cat k) (plans k) (loops-room d a f (i .if1 .left))))
 
 pub loops-spec : {M : Type 1} → statement M
 loops-spec =

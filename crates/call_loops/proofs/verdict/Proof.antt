@@ -11,10 +11,7 @@ returns c = sym (ap toldOutcome (c .before .outcome .given .1))
 returns-2 : tie.Need-returns-2
 returns-2 c = sym (ap toldOutcome (c .before .outcome2 .given .1))
 
-returns-3 : tie.Need-returns-3
-returns-3 c = sym (ap toldOutcome (c .before .outcome3 .given .1))
-
 pub verdict-spec : {M : Type 1} → statement M
 verdict-spec =
     tie.close
-    (tie.spec (λ c. search needs) (λ c. search needs) (λ c. search needs) returns returns-2 returns-3)
+    (tie.spec (λ c. search needs) (λ c. search needs) returns returns-2)

@@ -26,7 +26,7 @@ returns-2 c =
     let a = c .before .before in
     let e = a .before .before .before in
     let l = start e .pre .0 in
-    λ k h. place-outcome h l (apex e) (a .join-part .last .1 .1 .1 .1 .1 .1 .0) (a .join-part .result)
+    λ k h. place-outcome h l (apex e) (a .join-part .last .1 .1 .1 .1 .1 .0) (a .join-part .result)
     (a .join-part .ensures k (place-partable h l (apex e)))
 
 pub join-at-spec : {M : Type 1} → statement M

@@ -12,9 +12,9 @@ use Rattle.theory_conjugacy.specs.Part.{commands}
 use Rattle.conjugacy_settled_parts.specs.PartOfLaws.{cyclic-lettered}
 use Rattle.conjugacy_rounds.specs.ApexesLaws.{denied-no, denied-yes}
 use Rattle.conjugacy_rounds.specs.Counting.{CoreOf}
-use Rattle.conjugacy_of_cores.specs.Pair.{Coreable, Flagged}
+use Rattle.conjugacy_of_cores.specs.Pair.{Coreable, Joinable}
 use Rattle.conjugacy_of_cores.specs.CountLaws.{core-first, core-second, same-counted, cores-counted}
-use Rattle.conjugacy_of_cores.specs.CoreLaws.{cores-apart, cores-flagged, cores-outcome}
+use Rattle.conjugacy_of_cores.specs.CoreLaws.{cores-apart, cores-joinable, cores-outcome}
 use Rattle.conjugacy_of_cores.specs.ConjugatorLaws.{cores-same}
 use Rattle.conjugacy_of_cores.proofs.join_cores.Statement.{statement}
 use Rattle.conjugacy_of_cores.proofs.join_cores.Tie as tie
@@ -43,12 +43,12 @@ first-counted n = n .before .before .before .before
 abbrev Asked : tie.After-labels → List ℕ → Type 0
 Asked l k =
     let s = start l .args in
-    Coreable k (s .conflicts .now) (s .core1 .now) (s .core2 .now) (s .rounds) (s .row .now) (s .at)
+    Coreable k (s .conflicts .now) (s .core1 .now) (s .core2 .now) (s .row .now) (s .at)
 
 -- so the parts of the first core can be counted
 first : (l : tie.After-labels) (k : List ℕ) → Asked l k
     → (let s = start l .args in
-    CoreOf k (s .conflicts .now) (s .core1 .now) (flagged l .occurring .result) (l .labels .result) (s .rounds)
+    CoreOf k (s .conflicts .now) (s .core1 .now) (flagged l .occurring .result) (l .labels .result)
     (s .row .now) (s .at))
 first l k h =
     let f = flagged l .occurring .ensures k in
@@ -57,12 +57,12 @@ first l k h =
 -- and those of the second
 second : (n : tie.After-labels2) (k : List ℕ) → Asked (labelled (differ (first-counted n) .before)) k
     → (let a = first-counted n in let m = differ a .before in let s = start (labelled m) .args in
-    CoreOf k (s .conflicts .now) (s .core2 .now) (others m .occurring2 .result) (n .labels2 .result) (s .rounds)
-    (a .most-rounds2 .last .1 .1 .1 .1 .1 .1 .1 .0) (s .at))
+    CoreOf k (s .conflicts .now) (s .core2 .now) (others m .occurring2 .result) (n .labels2 .result)
+    (a .most-rounds2 .last .1 .1 .1 .1 .1 .1 .0) (s .at))
 second n k h =
     let a = first-counted n in
     let g = others (differ a .before) .occurring2 .ensures k in
-    core-second h g (n .labels2 .ensures k _ (h .second .table) g) (a .most-rounds2 .kept .1 .1 .1 .1 .1 .1 .1 .0)
+    core-second h g (n .labels2 .ensures k _ (h .second .table) g) (a .most-rounds2 .kept .1 .1 .1 .1 .1 .1 .0)
 
 -- what the comparison of the flags tells
 tells : (m : tie.After-same-commands) (k : List ℕ)
@@ -74,12 +74,12 @@ tells m k =
 -- where the same commands occur
 both : (e : tie.Else2) (k : List ℕ) → Asked (labelled (e .before)) k
     → (let l = labelled (e .before) in let s = start l .args in
-    Flagged k (s .conflicts .now) (s .core1 .now) (s .core2 .now) (flagged l .occurring .result) (l .labels .result)
-    (s .rounds))
+    Joinable k (s .conflicts .now) (s .core1 .now) (s .core2 .now) (flagged l .occurring .result) (l .labels .result)
+    (s .row .now) (s .at))
 both e k h =
     let l = labelled (e .before) in
     let f = flagged l .occurring .ensures k in
-    cores-flagged h (denied-no (tells (e .before) k) (e .if2 .left)) f (l .labels .ensures k _ (h .first .table) f)
+    cores-joinable h (denied-no (tells (e .before) k) (e .if2 .left)) f (l .labels .ensures k _ (h .first .table) f)
 
 occurring-requires : tie.Need-occurring-requires
 occurring-requires c κs = cyclic-lettered (c .before .before .before .pre .1 .first)
@@ -133,7 +133,7 @@ join-parts-requires : tie.Need-join-parts-requires
 join-parts-requires c κs =
     let e = c .before .before .before in
     let (k, h) = start (labelled (e .before)) .pre in
-    (k, both e k h, h .room)
+    (k, both e k h)
 
 returns-3 : tie.Need-returns-3
 returns-3 c =
@@ -141,7 +141,7 @@ returns-3 c =
     let e = a .before .before .before .before in
     let j = a .join-parts in
     λ k h.
-    cores-outcome h (denied-no (tells (e .before) k) (e .if2 .left)) (j .last .1 .1 .1 .1 .1 .1 .0) (j .result)
+    cores-outcome h (denied-no (tells (e .before) k) (e .if2 .left)) (j .last .1 .1 .1 .1 .1 .0) (j .result)
     (j .ensures k (both e k h))
 
 pub join-cores-spec : {M : Type 1} → statement M

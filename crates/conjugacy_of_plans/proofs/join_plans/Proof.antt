@@ -7,7 +7,6 @@ use borrow.Author.Needs.{needs}
 use Rattle.array_row.specs.AreaLaws.{starts-fits, starts-count}
 use Rattle.piling_form.specs.Coring.{CoreOf}
 use Rattle.conjugacy_by_cores.specs.Join.{Plans, Cores}
-use Rattle.conjugacy_of_plans.specs.RoomLaws.{cores-room}
 use Rattle.conjugacy_of_plans.specs.CoresLaws.{core-and-lead, lead-count, lead-fits}
 use Rattle.conjugacy_of_plans.proofs.join_plans.Statement.{statement}
 use Rattle.conjugacy_of_plans.proofs.join_plans.Tie as tie
@@ -43,7 +42,7 @@ start o = first o .before .before .before .before .before .before .before .befor
 
 -- what is asked, for one catalogue
 abbrev Asked : tie.After-core-of2 → List ℕ → Type 0
-Asked o k = let s = start o .args in Plans k (s .conflicts .now) (s .v .now) (s .w .now) (s .commands)
+Asked o k = let s = start o .args in Plans k (s .conflicts .now) (s .v .now) (s .w .now)
 
 -- the cores, and the letters taken off
 
@@ -63,7 +62,7 @@ cores : (o : tie.After-core-of2) (k : List ℕ) → Asked o k
     → (let s = start o .args in let r = first o .core-of in let t = o .core-of2 in
     Cores k (s .conflicts .now) (s .v .now) (s .w .now) (take (r .result .form) (r .last .1 .1 .0))
     (take (r .result .lead) (r .last .1 .1 .1 .0)) (take (t .result .form) (t .last .1 .1 .0))
-    (take (t .result .lead) (t .last .1 .1 .1 .0)) (s .commands))
+    (take (t .result .lead) (t .last .1 .1 .1 .0)))
 cores o k p = record { plans = p; first = core-and-lead (one o k p); second = core-and-lead (two o k p) }
 
 core-of-requires : tie.Need-core-of-requires
@@ -134,8 +133,8 @@ slice-aggregate-join-by-cores-4 c =
 join-by-cores-requires : tie.Need-join-by-cores-requires
 join-by-cores-requires c κs =
     let o = after-core-of2-from-join-by-cores-arg c in
-    let (k, p, f) = start o .pre in
-    (k, _, _, cores o k p, cores-room (cores o k p), f)
+    let (k, p, r) = start o .pre in
+    (k, _, _, cores o k p, r)
 
 returns : tie.Need-returns
 returns c =

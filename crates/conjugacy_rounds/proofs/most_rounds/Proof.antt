@@ -8,11 +8,11 @@ use Rattle.conjugacy_rounds.proofs.most_rounds.Statement.{statement}
 use Rattle.conjugacy_rounds.proofs.most_rounds.Tie as tie
 
 abbrev Inv-loop : tie.InvT-loop
-Inv-loop core flags labels k most rounds conflicts row₀ at found₀ j₀ row found j =
-    Counting conflicts core flags labels k most rounds row₀ at row found j
+Inv-loop core flags labels k most conflicts row₀ at found₀ j₀ row found j =
+    Counting conflicts core flags labels k most row₀ at row found j
 
 abbrev μ-loop : tie.MeasureT-loop
-μ-loop core flags labels k most rounds conflicts row₀ at found₀ j₀ row found j = 24 - j
+μ-loop core flags labels k most conflicts row₀ at found₀ j₀ row found j = 24 - j
 
 loop-holds : tie.Need-loop-holds Inv-loop μ-loop
 loop-holds c = counting-start (c .before .before .pre .0)

@@ -22,8 +22,8 @@ apex e = denied-no (e .before .is-apex .ensures) (e .if1 .left)
 -- its part
 own-part : (e : tie.Else1) (k : List ℕ)
     → (let s = start e .args in
-    CoreOf k (s .conflicts .now) (s .core .now) (s .flags .now) (s .labels .now) (s .rounds) (s .row .now) (s .at)
-    → PartOf k (s .conflicts .now) (s .core .now) (s .labels .now) (getD (s .labels .now) (s .k) 0) (s .rounds)
+    CoreOf k (s .conflicts .now) (s .core .now) (s .flags .now) (s .labels .now) (s .row .now) (s .at)
+    → PartOf k (s .conflicts .now) (s .core .now) (s .labels .now) (getD (s .labels .now) (s .k) 0)
     (s .row .now) (s .at))
 own-part e k h = core-part h _ (start e .pre .0) (apex e)
 

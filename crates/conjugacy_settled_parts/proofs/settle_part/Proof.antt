@@ -9,8 +9,7 @@ use Rattle.spec.specs.Letters.{alphabet}
 use Rattle.theory_conjugacy.specs.Part as Part
 use Rattle.conjugacy_settling.specs.Settling.{Settleable}
 use Rattle.conjugacy_settled_parts.specs.PartOf.{PartOf}
-use Rattle.conjugacy_settled_parts.specs.PartOfLaws.{cyclic-lettered, part-settleable, part-unsettled}
-use Rattle.conjugacy_settled_parts.specs.PartOfLaws.{part-settled, answered-done, answered-unsettled}
+use Rattle.conjugacy_settled_parts.specs.PartOfLaws.{cyclic-lettered, part-settleable, part-settled}
 use Rattle.conjugacy_settled_parts.proofs.settle_part.Statement.{statement}
 use Rattle.conjugacy_settled_parts.proofs.settle_part.Tie as tie
 
@@ -19,12 +18,6 @@ use Rattle.conjugacy_settled_parts.proofs.settle_part.Tie as tie
 abbrev start : tie.After-part-arg → tie.Start
 start c = c .before .before .before .before .before .before
 
-abbrev settle-from-told : tie.After-enum-told → tie.After-settle
-settle-from-told c = c .before .before .before .before .before .before .before .before
-
-abbrev settle-from-settled : tie.After-settled → tie.After-settle
-settle-from-settled c = c .before .before .before .before .before .before .before .before
-
 abbrev part-from-settle : tie.After-settle-arg2 → tie.After-part
 part-from-settle c = c .before .before .before .before .before .before
 
@@ -32,7 +25,7 @@ part-from-settle c = c .before .before .before .before .before .before
 abbrev Asked : tie.After-part → List ℕ → Type 0
 Asked p k =
     let s = start (p .before) .args in
-    PartOf k (s .conflicts .now) (s .core .now) (s .labels .now) (s .apex) (s .rounds) (s .cycled .now) (s .at)
+    PartOf k (s .conflicts .now) (s .core .now) (s .labels .now) (s .apex) (s .cycled .now) (s .at)
 
 copied : (p : tie.After-part) (k : List ℕ) → Asked p k
     → (let s = start (p .before) .args in StartsWith (Part.part (alphabet k) (s .apex) (s .core .now)) (s .word .now)
@@ -40,7 +33,7 @@ copied : (p : tie.After-part) (k : List ℕ) → Asked p k
 copied p k h = p .part .ensures k (h .core .labelled)
 
 settleable : (p : tie.After-part) (k : List ℕ) → Asked p k
-    → (let s = start (p .before) .args in Settleable k (take (p .part .result) (p .part .last .1 .1 .1 .0)) (s .rounds)
+    → (let s = start (p .before) .args in Settleable k (s .apex) (take (p .part .result) (p .part .last .1 .1 .1 .0))
     (s .conflicts .now) (p .before .before .before .sheet .result) (p .before .before .sheet2 .result) (s .cycled .now)
     (s .at))
 settleable p k h =
@@ -72,21 +65,11 @@ settle-requires c κs =
 
 returns : tie.Need-returns
 returns c =
-    let t = settle-from-told c in
-    let p = part-from-settle (t .before) in
-    λ k h.
-    part-unsettled h (starts-take (copied p k h))
-    (answered-unsettled k _ _ _ _ _ _ _ (t .settle .ensures k (settleable p k h)) (c .enum-told .given .1))
-
-returns-2 : tie.Need-returns-2
-returns-2 c =
-    let q = c .before in
-    let t = settle-from-settled q in
+    let t = c .before .before .before .before .before .before in
     let p = part-from-settle (t .before) in
     λ k h.
     let d = copied p k h in
-    part-settled h (starts-take d) _ (starts-count d)
-    (answered-done k _ _ _ _ _ _ _ (t .settle .ensures k (settleable p k h)) (q .settled .given .1))
+    part-settled h (starts-take d) _ (starts-count d) (t .settle .ensures k (settleable p k h))
 
 pub settle-part-spec : {M : Type 1} → statement M
 settle-part-spec =
@@ -98,7 +81,5 @@ settle-part-spec =
     slice-aggregate-settle
     (λ c. search needs) (λ c. search needs)
     settle-requires
-    (λ c. search needs) (λ c. search needs) (λ c. search needs) (λ c. search needs)
-    returns
     (λ c. search needs) (λ c. search needs)
-    returns-2)
+    returns)
