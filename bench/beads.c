@@ -1,6 +1,5 @@
 /* Four calls of docs/MANUAL.md, normal form, equal, loops and lead-in check, on pilings with one byte a bead, written
- * for speed. It keeps nothing between calls, and takes up to 1.4 megabytes of stack. It never gives refusal 10, which
- * cannot come up. See beads.h. */
+ * for speed. It keeps nothing between calls, and takes up to 1.4 megabytes of stack. See beads.h. */
 #include "beads.h"
 
 #include "busplan.h"

@@ -41,7 +41,7 @@
 extern "C" {
 #endif
 
-#define BUSPLAN_VERSION "1.2.0"
+#define BUSPLAN_VERSION "2.0.0"
 
 #define BUSPLAN_MAX_COMMANDS 24
 #define BUSPLAN_MAX_PLAN 1024
@@ -87,7 +87,7 @@ enum busplan_refusal {
     BUSPLAN_PLAN_SIZE = 7,      /* a plan over 1,024 bytes (a lead-in over 49,152) */
     BUSPLAN_PLAN_BYTE = 8,      /* a byte that is not 0, 1 to N or 129 to 128 + N; in a text a command above N */
     BUSPLAN_AREA_SIZE = 9,      /* an area smaller than the call asks for */
-    BUSPLAN_UNSETTLED = 10,     /* a part of a core is unsettled after N rounds; proved never to be returned */
+    /* 10 is retired: no call returns it, and it is not used again. */
     BUSPLAN_FRAMING = 11,       /* the input of the program loops is badly framed; no call returns it */
     BUSPLAN_PAIRS_SIZE = 12,    /* from Rattle alone: too little room for the places of the letters that cancelled */
     BUSPLAN_TEXT = 13,          /* a text that is not in the notation */
@@ -107,7 +107,6 @@ static inline const char *busplan_refusal_text(int64_t answer) {
     case -BUSPLAN_PLAN_SIZE: return "a plan is over 1,024 bytes, or a lead-in over 49,152";
     case -BUSPLAN_PLAN_BYTE: return "a plan has a byte that is no command, undo or filler, or a text a command above N";
     case -BUSPLAN_AREA_SIZE: return "an area is smaller than the call asks for";
-    case -BUSPLAN_UNSETTLED: return "a part of a core is unsettled after N rounds";
     case -BUSPLAN_FRAMING: return "the input is badly framed";
     case -BUSPLAN_PAIRS_SIZE: return "there is too little room for the places of the letters that cancelled";
     case -BUSPLAN_TEXT: return "a text is not in the notation";

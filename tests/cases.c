@@ -442,10 +442,10 @@ static const struct {
     const char *word;
 } texts[] = {
     {-1, "2 + N + 2R"}, {-2, "24 commands"}, {-3, "index"}, {-4, "record whose"}, {-5, "doesn't end"},
-    {-6, "its own chain"}, {-7, "a lead-in over"}, {-8, "byte that"}, {-9, "area"}, {-10, "unsettled"}, {-11, "framed"},
+    {-6, "its own chain"}, {-7, "a lead-in over"}, {-8, "byte that"}, {-9, "area"}, {-11, "framed"},
     {-12, "letters that cancelled"}, {-13, "notation"}, {-14, "deeper than 8"}, {-15, "written out"},
     {0, "not refused"}, {1, "not refused"}, {INT64_MAX, "not refused"},
-    {-16, "no refusal of this library"}, {INT64_MIN, "no refusal of this library"},
+    {-10, "no refusal of this library"}, {-16, "no refusal of this library"}, {INT64_MIN, "no refusal of this library"},
 };
 
 static void check_texts(void) {

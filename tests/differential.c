@@ -233,7 +233,7 @@ static void round_of_calls(void) {
 
 /* ---- The whole */
 
-/* Whether a call can give an answer: 0, minus 1 to 10, or ABOVE. Refusal 10 cannot come up. */
+/* Whether a call can give an answer: 0, minus 1 to 10, or ABOVE. Refusal 10 is retired and must not come up. */
 static bool possible(enum call call, unsigned answer) {
     if (answer == ABOVE) return call != FAULT;
     return answer <= 8 || (answer == 9 && sizes_areas(call));

@@ -1,7 +1,8 @@
 #!/bin/sh
 # Holds include/busplan.h to the Rattle source, which no compiler does: the functions that the crate busplan exports, by
-# name, order, result and parameters; the numbers of the refusals and the limits, as the crate spec has them. Then it
-# damages copies of the header, and each must be caught. It needs neither rt nor a C compiler.
+# name, order, result and parameters; the numbers of the refusals and the limits, as the crate spec has them. Number 10
+# is retired and must be no refusal's. Then it damages copies of the header, and each must be caught. It needs neither
+# rt nor a C compiler.
 #
 #   tests/header.sh [HEADER]     HEADER: by default include/busplan.h
 set -e
@@ -144,6 +145,16 @@ for name in busplan_normal_form BUSPLAN_FRAMING \
     exit 1
   fi
 done
+retired() { ! grep ' = 10$' "$1"; } # SOURCE
+if ! retired "$out/source" >&2; then
+  echo "header: 10 is retired, and the Rattle source uses it again" >&2
+  exit 1
+fi
+sed 's/\(BUSPLAN_FRAMING.*\) = 11$/\1 = 10/' "$out/source" >"$out/reused"
+if retired "$out/reused" >"$out/said"; then
+  echo "header: a retired number that the Rattle source uses again is not caught" >&2
+  exit 1
+fi
 compare "$header" >&2
 
 # A way to damage the header: what it is, the name that must be told, and what sed does.
@@ -177,6 +188,8 @@ an array of another length|busplan_fault|s/uint64_t fault\[2\]/uint64_t fault[3]
 a refusal of another number|BUSPLAN_INDEX|s/BUSPLAN_INDEX = 3/BUSPLAN_INDEX = 4/
 a refusal renamed|BUSPLAN_PLACE|s/BUSPLAN_INDEX = 3/BUSPLAN_PLACE = 3/
 a refusal left out|BUSPLAN_FRAMING|/BUSPLAN_FRAMING = 11/d
+a refusal that is retired|BUSPLAN_UNSETTLED|s/.* 10 is retired.*/BUSPLAN_UNSETTLED = 10,/
+the number of one that is retired|BUSPLAN_FRAMING|s/BUSPLAN_FRAMING = 11/BUSPLAN_FRAMING = 10/
 another limit|BUSPLAN_MAX_PLAN|s/^#define BUSPLAN_MAX_PLAN .*/#define BUSPLAN_MAX_PLAN 1023/
 another nesting|BUSPLAN_MAX_NESTING|s/^#define BUSPLAN_MAX_NESTING .*/#define BUSPLAN_MAX_NESTING 9/
 a call on texts left out|busplan_text_fault|/^int64_t busplan_text_fault(/,/;/d

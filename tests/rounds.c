@@ -248,7 +248,8 @@ static void check_verdict(const char *printed) {
                                          plan[1].size, area, sizeof area, &rounds);
     if (answer > 0) sscanf(printed, "joined %zu", &length);
     if (answer > 0) snprintf(expected, sizeof expected, "joined %zu %u\n", length, rounds);
-    else snprintf(expected, sizeof expected, "apart %u\n", rounds);
+    else if (answer == 0) snprintf(expected, sizeof expected, "apart %u\n", rounds);
+    else snprintf(expected, sizeof expected, "refused %d, by the solver\n", (int)-answer);
     if (known.is && (known.joined != (answer > 0) || known.rounds != rounds))
         fail("the solver's answer is not the one that is known", printed, expected);
     if (strcmp(printed, expected) != 0) fail("the answers differ", printed, expected);

@@ -31,7 +31,6 @@ pub fn number(reason: Reason) -> u8
         Reason::PlanSize => 7,
         Reason::PlanByte => 8,
         Reason::AreaSize => 9,
-        Reason::Unsettled => 10,
         Reason::Framing => 11,
         Reason::PairsSize => 12,
         Reason::Text => 13,

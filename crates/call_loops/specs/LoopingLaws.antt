@@ -1,4 +1,4 @@
--- The loops call goes through its checks, then line 9, and line 10 never holds.
+-- The loops call goes through its checks, then line 9.
 use Prim.Native.Nat.{ℕ, _+_, _*_, _<_, _≤_}
 use mathlib.Core.Path.{_≡_, sym, _∙_, ap, subst}
 use mathlib.Core.List.{List, [], _∷_}
@@ -15,18 +15,16 @@ use Rattle.input_catalogue.specs.declared.Checked.the-variants.{Refused, Passed
 use Rattle.conjugacy_of_parts.specs.declared.Outcome.{Outcome}
 use Rattle.conjugacy_by_cores.specs.Join as Join
 use Rattle.conjugacy_by_cores.specs.Join.{Plans, PlansRoom, PlansOutcome}
-use Rattle.spec_laws.specs.RetiredLaws.{never-unsettled}
 use Rattle.input_checks.specs.Entry.{TwoPlans, twoLines, SameRefusal}
 use Rattle.input_checks.specs.EntryLaws.{entered-none, entered-some, entered-commands}
 use Rattle.spec.specs.Answers.{DecidedLoops}
 use Rattle.spec.specs.Calls.{areaLine}
-use Rattle.spec.specs.Retired.{unsettledLine}
 use Rattle.spec.specs.Loops.{Looped, refuses, apart, joined, loopsLines, leadInRoom}
 use Rattle.conjugacy_of_parts.specs.Outcomes.{toldOutcome}
 
 module _ {c v w : List ℕ} {rows : List (List ℕ)} {r : Checked} (d : TwoPlans c v w rows r) (area : List ℕ) where
   abbrev last : List (Option Line)
-  last = areaLine 0 (leadInRoom c v w) area ∷ unsettledLine 1 c v ∷ unsettledLine 2 c w ∷ []
+  last = areaLine 0 (leadInRoom c v w) area ∷ []
 
   pub loops-refused : {t : Answer DecidedLoops} {f : Refusal} → r ≡ Refused f → SameRefusal r t
       → Looped c v w area t area
@@ -60,13 +58,8 @@ module _ {c v w : List ℕ} {rows : List (List ℕ)} {r : Checked} (d : TwoPlans
 
     pub loops-none : n * (length v + length w) ≤ length area → firstLine (loopsLines c v w area) ≡ none
     loops-none h =
-        let p = d .passed (entered-none d e) in
         first-late (twoLines c v w) last (entered-none d e)
-        ∙ rw (
-          le-ltb (length area) (leadInRoom c v w) (loops-room h .form),
-          never-unsettled 1 c v (p .0 .few) (p .0 .passing),
-          never-unsettled 2 c w (p .1 .few) (p .1 .passing),
-        )
+        ∙ rw (le-ltb (length area) (leadInRoom c v w) (loops-room h .form))
 
     pub loops-told : {o : Outcome} {after : List ℕ} → n * (length v + length w) ≤ length area
         → PlansOutcome c v w area o after

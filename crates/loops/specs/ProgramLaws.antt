@@ -1,15 +1,14 @@
 -- Laws of the program's answer: its areas are large enough, and what the answers of the calls and the framing tell.
 use Prim.Native.Nat.{ℕ, _+_, _-_, _≤_}
 use native.Mathlib.Omega.{arith}
-use native.Mathlib.Nat.{mul-le-mul}
 use mathlib.Core.Path.{_≡_, refl, sym, _∙_, ap, ap₂}
 use mathlib.Core.Bool.{Bool}
-use mathlib.Core.List.{List, [], _∷_, _++_, append-nil}
+use mathlib.Core.List.{List, [], _∷_}
 use mathlib.Core.Option.{Option, none, some}
 use lib.ListN.{length, take, drop}
 use borrow.Author.Tests.{le-ltb}
 use Rattle.spec.specs.Table.{Line, line, lineOf, Answer, refused, given, firstLine, orElse}
-use Rattle.spec_laws.specs.TableLaws.{none-left, none-right, none-some}
+use Rattle.spec_laws.specs.TableLaws.{left-out, none-left, none-right, none-some}
 use Rattle.spec.specs.declared.Refusal.{Refusal}
 use Rattle.theory_conjugacy.specs.Decision.{joined?}
 use Rattle.spec.specs.Catalogue.{commands, catalogueLines}
@@ -18,10 +17,9 @@ use Rattle.spec_laws.specs.PlanLaws.{lines-pass}
 use Rattle.spec.specs.Letters.{letters, alphabet}
 use Rattle.spec.specs.Answers.{toldWritten, toldLoops, DecidedLoops}
 use Rattle.spec.specs.Calls.{planLimit, areaLine, normalFormLines, coreForm, coreAnswer}
-use Rattle.spec_laws.specs.CallLaws.{few-commands}
 use Rattle.spec_laws.specs.SearchLaws.{given-not}
 use Rattle.spec_laws.specs.LoopLaws.{lead-in-same}
-use Rattle.spec.specs.Retired.{unsettledLine}
+use Rattle.spec_laws.specs.CodeLaws.{room-limit}
 use Rattle.spec.specs.Loops.{loopsLines, leadInRoom, Looped, refuses, apart, joined}
 use Rattle.spec.specs.declared.Written.{Written}
 use Rattle.spec.specs.declared.Written.the-variants as written
@@ -37,14 +35,7 @@ use Rattle.spec.specs.Program.{coreLines, programLines, joined-step, loopsVerdi
 
 -- Areas that are large enough
 
--- a line can be left out if it does not hold where those before it do not
-left-out : (xs ys : List (Option Line)) (o : Option Line) → (firstLine xs ≡ none → o ≡ none)
-    → firstLine (xs ++ o ∷ ys) ≡ firstLine (xs ++ ys)
-left-out [] ys o h = rw (h refl)
-left-out (none ∷ xs) ys o h = left-out xs ys o h
-left-out (some l ∷ xs) ys o h = refl
-
-large : (need : ℕ) (area : List ℕ) → need ≤ length area → areaLine 0 need area ≡ none
+large : (need : ℕ) (area : List ℕ) → need ≤ length area → firstLine (areaLine 0 need area ∷ []) ≡ none
 large need area h = rw (le-ltb (length area) need h)
 
 module _ (c v : List ℕ) where
@@ -54,34 +45,17 @@ module _ (c v : List ℕ) where
       .0 (none-right (catalogueLines c) (planLines 1 planLimit (commands c) v) e)
       .0
 
-  pub core-enough : (area : List ℕ) → 1024 ≡ length area
+  core-enough : (area : List ℕ) → 1024 ≡ length area
       → firstLine (normalFormLines c v area) ≡ firstLine (coreLines c v)
   core-enough area l =
-      left-out (coreLines c v) [] (areaLine 0 (length v) area)
+      left-out (coreLines c v) (areaLine 0 (length v) area ∷ [])
       (λ e. large (length v) area (omega (arith, plan1-short e)))
-      ∙ ap firstLine (append-nil (coreLines c v))
 
-module _ (c v w : List ℕ) where
-  abbrev front : List (Option Line)
-  front = coreLines c v ++ planLines 2 planLimit (commands c) w
-
-  room-enough : firstLine front ≡ none → leadInRoom c v w ≤ 49152
-  room-enough e =
-      let e1 : firstLine (coreLines c v) ≡ none = none-left (coreLines c v) (planLines 2 planLimit (commands c) w) e in
-      let n : commands c ≤ 24 =
-      few-commands c (none-left (catalogueLines c) (planLines 1 planLimit (commands c) v) e1) in
-      let m : length w ≤ planLimit =
-      lines-pass 2 planLimit (commands c) w
-      .0 (none-right (coreLines c v) (planLines 2 planLimit (commands c) w) e)
-      .0 in
-      let s : length v + length w ≤ 2048 = omega (arith, plan1-short c v e1) in
-      mul-le-mul n s
-
-  pub loops-enough : (area : List ℕ) → 49152 ≡ length area
-      → firstLine (loopsLines c v w area) ≡ firstLine (programLines c v w)
-  loops-enough area l =
-      left-out front (unsettledLine 1 c v ∷ unsettledLine 2 c w ∷ []) (areaLine 0 (leadInRoom c v w) area)
-      (λ e. large (leadInRoom c v w) area (omega (arith, room-enough e)))
+loops-enough : (c v w area : List ℕ) → 49152 ≡ length area
+    → firstLine (loopsLines c v w area) ≡ firstLine (programLines c v w)
+loops-enough c v w area l =
+    left-out (programLines c v w) (areaLine 0 (leadInRoom c v w) area ∷ [])
+    (λ e. large (leadInRoom c v w) area (omega (arith, room-limit c v w e)))
 
 -- What the core call's answer tells
 
@@ -136,8 +110,7 @@ module _ (c v w area : List ℕ) (h : 49152 ≡ length area) where
   core-passes (refuses e) k = absurd (given-not (sym k))
   core-passes (apart e j) k = absurd (none-some (lead-in-same k))
   core-passes (joined e j i) k =
-      none-left (coreLines c v) (planLines 2 planLimit (commands c) w)
-      (none-left (front c v w) (unsettledLine 1 c v ∷ unsettledLine 2 c w ∷ []) (first-as-call e))
+      none-left (coreLines c v) (planLines 2 planLimit (commands c) w) (first-as-call e)
 
   module _ {r : Loops} {after : List ℕ} (d : Looped c v w area (toldLoops r) after) where
     pub loops-joined : {l n : ℕ} → r ≡ loops.Joined l n → coreVerdict c v ≡ loopsVerdict c v w

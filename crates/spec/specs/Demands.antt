@@ -1,8 +1,8 @@
 -- What was bought: the demands, as statements without proofs. The contract of each call says that the call, on any
 -- bytes, answers what its definition says (Calls, Loops) and leaves its areas as its definition says; here stands what
 -- that is worth, over steps (Step), their order (Order), pairs (Core), lead-ins (Join), rounds (Rounds) and bits (Bits)
--- alone, and that line 10 refuses nothing (Retired). The crate spec_laws proves each demand as one value (DemandsMet),
--- the crate loops_framing that of the program's input.
+-- alone, and that no input reached the line that is retired (Retired). The crate spec_laws proves each demand as one
+-- value (DemandsMet), the crate loops_framing that of the program's input.
 use Prim.Native.Nat.{ℕ, _+_, _*_, _^_, _≤_, _<_}
 use mathlib.Core.Path.{_≡_}
 use mathlib.Core.Bool.{Bool, true, false}
@@ -12,7 +12,9 @@ use mathlib.Core.Logic.{_↔_, _⊎_}
 use lib.ListN.{length, take, drop, getD}
 use lib.Bits.{bitAnd}
 use Rattle.theory_words.specs.All.{All}
-use Rattle.spec.specs.Table.{Line, line, Answer, refused, given, firstLine, orElse, orKept, NoneHolds, FirstHolds}
+use Rattle.spec.specs.declared.Reason.{Reason}
+use Rattle.spec.specs.Table.{Line, line, numberOf, Answer, refused, given, firstLine, orElse, orKept}
+use Rattle.spec.specs.Table.{NoneHolds, FirstHolds}
 use Rattle.spec.specs.Catalogue.{commands, countLine, catalogueLines}
 use Rattle.spec.specs.Plan.{planLines}
 use Rattle.spec.specs.Conflict.{conflict, Conflicting}
@@ -209,14 +211,19 @@ pub record ProgramDemand : Type 0 where
   pub either-core : (s : List ℕ) (l : ℕ) → programAnswer s ≡ given (some l)
       → (l ≡ length (coreForm (catalogueOf s) (plan1Of s))) × (l ≡ length (coreForm (catalogueOf s) (plan2Of s)))
 
--- Line 10. Where the lines of a catalogue and of two plans let these pass, no part of either core is unsettled after N
--- rounds. So no bytes as catalogue and plans are refused by line 10, neither in a loops call nor by the program.
+-- Line 10, retired. Where no line refuses two plans, no part of either core is unsettled after N rounds. Line 10 stood
+-- behind the lines of the loops call and of the program; put back there, it refuses no bytes as catalogue and plans. So
+-- each input is refused by the line that refused it before, or by none as before. No refusal has its number any more.
 pub record RetiredDemand : Type 0 where
-  pub settled : (c v w : List ℕ)
-      → NoneHolds (catalogueLines c ++ planLines 1 planLimit (commands c) v ++ planLines 2 planLimit (commands c) w)
-      → NoneHolds (unsettledLines c v w)
-  pub loops : (c v w area : List ℕ) (p i : ℕ) → ¬ FirstHolds (line 10 p i) (loopsLines c v w area)
-  pub program : (c v w : List ℕ) (p i : ℕ) → ¬ FirstHolds (line 10 p i) (programLines c v w)
+  pub settled : (c v w : List ℕ) → NoneHolds (programLines c v w) → NoneHolds (unsettledLines c v w)
+  pub loops : (c v w area : List ℕ) (p i : ℕ)
+      → ¬ FirstHolds (line 10 p i) (loopsLines c v w area ++ unsettledLines c v w)
+  pub program : (c v w : List ℕ) (p i : ℕ) → ¬ FirstHolds (line 10 p i) (programLines c v w ++ unsettledLines c v w)
+  pub loops-same : (c v w area : List ℕ)
+      → firstLine (loopsLines c v w area ++ unsettledLines c v w) ≡ firstLine (loopsLines c v w area)
+  pub program-same : (c v w : List ℕ)
+      → firstLine (programLines c v w ++ unsettledLines c v w) ≡ firstLine (programLines c v w)
+  pub unused : (r : Reason) → ¬ (numberOf r ≡ 10)
 
 -- What the manual says of all plans: with at most 24 commands each differs from its undo, and all shortest plans of
 -- one effect differ by swaps alone.

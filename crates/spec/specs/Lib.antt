@@ -15,7 +15,6 @@ pub mod Pairs
 pub mod Calls
 pub mod Rounds
 pub mod Bits
-pub mod Retired
 pub mod Loops
 pub mod Fault
 pub mod Notation
@@ -27,4 +26,5 @@ pub mod Listing
 pub mod Program
 pub mod Cases
 pub mod TextCases
+pub mod Retired
 pub mod Demands

@@ -15,7 +15,6 @@ use Rattle.spec.specs.Letters.{letters, alphabet, normalForm}
 use Rattle.spec.specs.Join.{Joins}
 use Rattle.spec.specs.Calls.{planLimit, areaLine, areaAfter}
 use Rattle.spec.specs.Rounds.{loopsRounds}
-use Rattle.spec.specs.Retired.{unsettledLine}
 use Rattle.spec.specs.Answers.{DecidedLoops, CheckedLeadIn}
 
 -- Loops
@@ -27,7 +26,7 @@ leadInRoom c v w = commands c * (length v + length w)
 abbrev pub loopsLines : List ℕ → List ℕ → List ℕ → List ℕ → List (Option Line)
 loopsLines c v w area =
     catalogueLines c ++ planLines 1 planLimit (commands c) v ++ planLines 2 planLimit (commands c) w
-    ++ areaLine 0 (leadInRoom c v w) area ∷ unsettledLine 1 c v ∷ unsettledLine 2 c w ∷ []
+    ++ areaLine 0 (leadInRoom c v w) area ∷ []
 
 -- a lead-in as the loops call writes it: a normal form that joins v to w, within the room
 pub record LeadIn (c v w u : List ℕ) : Type 0 where

@@ -2,7 +2,7 @@
 -- the number of letters in the core where they are joined.
 use Prim.Native.Nat.{ℕ}
 use mathlib.Core.Bool.{Bool, true, false}
-use mathlib.Core.List.{List, [], _∷_, _++_}
+use mathlib.Core.List.{List, _++_}
 use mathlib.Core.Option.{Option, none, some}
 use lib.ListN.{length}
 use Rattle.spec.specs.Table.{Line, line, Answer, refused, firstLine, orElse}
@@ -11,7 +11,6 @@ use Rattle.spec.specs.Catalogue.{commands, catalogueLines}
 use Rattle.spec.specs.Plan.{planLines}
 use Rattle.spec.specs.Letters.{letters, alphabet}
 use Rattle.spec.specs.Calls.{planLimit, coreForm}
-use Rattle.spec.specs.Retired.{unsettledLine}
 use Rattle.spec.specs.Framing.{wellFramed, catalogueOf, plan1Of, plan2Of}
 
 -- the lines that can refuse one plan; the program's own areas are large enough, so line 9 is not among them
@@ -20,8 +19,7 @@ coreLines c v = catalogueLines c ++ planLines 1 planLimit (commands c) v
 
 -- the lines that can refuse two plans
 abbrev pub programLines : List ℕ → List ℕ → List ℕ → List (Option Line)
-programLines c v w =
-    coreLines c v ++ planLines 2 planLimit (commands c) w ++ unsettledLine 1 c v ∷ unsettledLine 2 c w ∷ []
+programLines c v w = coreLines c v ++ planLines 2 planLimit (commands c) w
 
 -- the number of letters in the core if the loops are joined, and nothing if they are apart
 abbrev pub joined-step : Bool → ℕ → Option ℕ

@@ -1,6 +1,5 @@
--- Line 10 of the manual's table, which is to be retired: no bytes as catalogue and plans reach it (RetiredDemand in
--- Demands). It still stands in the tables of the loops call and of the program (Loops, Program), and will leave them;
--- its number will not be used again.
+-- Line 10 of the manual's table, retired: no bytes as catalogue and plans reach it (RetiredDemand in Demands). Its
+-- number is not used again, and nothing but that demand speaks of it.
 use Prim.Native.Nat.{ℕ}
 use mathlib.Core.Bool.{Bool, true, false, not, _||_}
 use mathlib.Core.List.{List, [], _∷_}

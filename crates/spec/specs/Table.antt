@@ -8,7 +8,7 @@ use mathlib.Core.Option.{Option, none, some}
 use Rattle.spec.specs.declared.Reason.{Reason}
 use Rattle.spec.specs.declared.Reason.the-variants.{CatalogueSize, CommandCount, Index, RecordCommand}
 use Rattle.spec.specs.declared.Reason.the-variants.{EndlessChain, OwnChain, PlanSize, PlanByte, AreaSize}
-use Rattle.spec.specs.declared.Reason.the-variants.{Unsettled, Framing, PairsSize, Text, Nesting, WrittenSize}
+use Rattle.spec.specs.declared.Reason.the-variants.{Framing, PairsSize, Text, Nesting, WrittenSize}
 use Rattle.spec.specs.declared.Refusal.{Refusal}
 
 -- number, plan and place, as the table has them
@@ -20,6 +20,7 @@ pub record Line : Type 0 where
 abbrev pub line : ℕ → ℕ → ℕ → Line
 line n p i = record { number = n; plan = p; place = i }
 
+-- the number of each reason; 10 is retired and not used again (Retired)
 abbrev pub numberOf : Reason → ℕ
 numberOf CatalogueSize = 1
 numberOf CommandCount = 2
@@ -30,7 +31,6 @@ numberOf OwnChain = 6
 numberOf PlanSize = 7
 numberOf PlanByte = 8
 numberOf AreaSize = 9
-numberOf Unsettled = 10
 numberOf Framing = 11
 numberOf PairsSize = 12
 numberOf Text = 13

@@ -2,7 +2,8 @@
 // manual says (docs/MANUAL.md), with the statements of the demands (specs/Demands.antt). The crate spec_laws proves
 // those statements.
 
-// The lines of the manual's table, in its order (docs/MANUAL.md, "Refusals").
+// The lines of the manual's table, in its order (docs/MANUAL.md, "Refusals"). Number 10 is retired and not used again
+// (specs/Retired.antt).
 pub enum Reason {
     CatalogueSize,
     CommandCount,
@@ -13,7 +14,6 @@ pub enum Reason {
     PlanSize,
     PlanByte,
     AreaSize,
-    Unsettled,
     Framing,
     PairsSize,
     Text,

@@ -33,7 +33,6 @@ use Rattle.spec.specs.Pairs.{partner, readByte, readFrom, reading}
 use Rattle.spec.specs.Calls.{coreForm}
 use Rattle.spec.specs.Join.{Joins}
 use Rattle.spec.specs.Rounds.{loopsRounds}
-use Rattle.spec.specs.Retired.{isEmpty, unsettled}
 use Rattle.spec.specs.Loops.{leadInRoom, loopsLines, apart, joined}
 use Rattle.spec.specs.Loops.{checkAnswer, checkArea0, checkArea1}
 use Rattle.spec_laws.specs.DemandsMet.{demand-3}
@@ -66,7 +65,7 @@ apart-row : (v w : List ℕ) (r : ℕ) → firstLine (loopsLines K v w (room v w
 apart-row v w r e d q = (none-holds (loopsLines K v w (room v w)) .0 e, rw (← q) (apart e d))
 
 pub starred-hold : StarredCases
-unfolding firstOf isEmpty unsettled without-step without act-step act reduce meets firsts least-step least rest
+unfolding firstOf without-step without act-step act reduce meets firsts least-step least rest
     lex-step lex nf ends follow stands conflict isCommand passes undone letters normalForm ℕ-discrete
     Core.undone without-last between pair-step pair peels-step peels core coreForm insert-step insert
     relabel-step relabel merge-step Part.commands merge merge-row merge-all labels label apexes share part hit

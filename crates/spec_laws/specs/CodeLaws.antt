@@ -1,10 +1,10 @@
 -- No length that a call answers is above what is handed in or above 49,152, so that its number fits.
-use Prim.Native.Nat.{ℕ, _+_, _*_, _≤_}
+use Prim.Native.Nat.{ℕ, _+_, _≤_}
 use mathlib.Core.Path.{_≡_, sym, _∙_, ap}
-use mathlib.Core.List.{List, [], _∷_, _++_}
+use mathlib.Core.List.{List, [], _∷_}
 use mathlib.Core.Option.{Option, none, some}
 use native.Mathlib.Omega.{arith}
-use native.Mathlib.Nat.{mul-le-mul-left, mul-le-mul-right}
+use native.Mathlib.Nat.{mul-le-mul}
 use lib.ListN.{length}
 use Rattle.spec.specs.Table.{Line, Answer, given, firstLine, orElse}
 use Rattle.spec_laws.specs.TableLaws.{none-left, none-right, none-some, some-same}
@@ -21,8 +21,8 @@ use Rattle.spec.specs.Answers.{toldWritten, DecidedLoops}
 use Rattle.spec.specs.Calls.{planLimit, areaLine, normalFormLines, normalFormAnswer, coreForm, coreAnswer}
 use Rattle.spec_laws.specs.CallLaws.{answer-given, few-commands}
 use Rattle.spec_laws.specs.LoopLaws.{lead-in-same}
-use Rattle.spec.specs.Retired.{unsettledLine}
-use Rattle.spec.specs.Loops.{leadInRoom, leadInLimit, loopsLines, Looped, refuses, apart, joined}
+use Rattle.spec.specs.Loops.{leadInRoom, leadInLimit, Looped, refuses, apart, joined}
+use Rattle.spec.specs.Program.{coreLines, programLines}
 
 -- a plan z that is written, no longer than v
 written-length : (o : Option Line) (v z : List ℕ) → length z ≤ length v → {r : Written} (l : ℕ)
@@ -38,25 +38,20 @@ module _ (c v area : List ℕ) {r : Written} (l : ℕ) where
   core-short = written-length (firstLine (normalFormLines c v area)) v (coreForm c v) (core-form-length c v) l
 
 -- the room of a lead-in between plans that no line refuses
-room-limit : (c v w area : List ℕ) → firstLine (loopsLines c v w area) ≡ none → leadInRoom c v w ≤ leadInLimit
-room-limit c v w area e =
+pub room-limit : (c v w : List ℕ) → firstLine (programLines c v w) ≡ none → leadInRoom c v w ≤ leadInLimit
+room-limit c v w e =
     let n = commands c in
-    let ls = catalogueLines c ++ planLines 1 planLimit n v in
-    let late = areaLine 0 (leadInRoom c v w) area ∷ unsettledLine 1 c v ∷ unsettledLine 2 c w ∷ [] in
-    let both : firstLine (ls ++ planLines 2 planLimit n w) ≡ none =
-    none-left (ls ++ planLines 2 planLimit n w) late e
-    in
-    let one : firstLine ls ≡ none = none-left ls (planLines 2 planLimit n w) both in
-    let k = few-commands c (none-left (catalogueLines c) (planLines 1 planLimit n v) one) in
+    let one : firstLine (coreLines c v) ≡ none = none-left (coreLines c v) (planLines 2 planLimit n w) e in
+    let k : n ≤ 24 = few-commands c (none-left (catalogueLines c) (planLines 1 planLimit n v) one) in
     let i = lines-pass 1 planLimit n v .0 (none-right (catalogueLines c) (planLines 1 planLimit n v) one) .0 in
-    let j = lines-pass 2 planLimit n w .0 (none-right ls (planLines 2 planLimit n w) both) .0 in
-    let a : n * (length v + length w) ≤ n * 2048 = mul-le-mul-left n (omega arith) in
-    let b : n * 2048 ≤ 24 * 2048 = mul-le-mul-right 2048 k in
-    omega arith
+    let j = lines-pass 2 planLimit n w .0 (none-right (coreLines c v) (planLines 2 planLimit n w) e) .0 in
+    let s : length v + length w ≤ 2048 = omega (arith, i, j) in
+    mul-le-mul k s
 
 pub looped-length : {c v w area after : List ℕ} {t : Answer DecidedLoops} (l : ℕ) {n : ℕ} → Looped c v w area t after
     → t ≡ given (record { lead-in = some l; rounds = n }) → l ≤ leadInLimit
 looped-length l (refuses e) k = absurd (given-not (sym k))
 looped-length l (apart e d) k = absurd (none-some (lead-in-same k))
 looped-length {c} {v} {w} {area} l (joined e d h) k =
-    omega (arith, some-same (lead-in-same k), h .short, room-limit c v w area e)
+    let room = room-limit c v w (none-left (programLines c v w) (areaLine 0 (leadInRoom c v w) area ∷ []) e) in
+    omega (arith, some-same (lead-in-same k), h .short, room)

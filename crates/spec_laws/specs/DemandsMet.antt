@@ -39,7 +39,8 @@ use Rattle.spec_laws.specs.ReadingLaws.{numbers-length, accounts}
 use Rattle.spec_laws.specs.PairedLaws.{form-few, form-passes, paired-refused, paired-none}
 use Rattle.spec.specs.Loops.{leadInRoom, loopsLines, Looped, refuses, apart, joined, LeadIn}
 use Rattle.spec.specs.Loops.{checkLines, checkResult, checkAnswer}
-use Rattle.spec_laws.specs.RetiredLaws.{plans-settled, never-ten}
+use Rattle.spec.specs.Retired.{unsettledLines}
+use Rattle.spec_laws.specs.RetiredLaws.{plans-settled, retired-same, never-ten, number-unused}
 use Rattle.spec.specs.Bits.{Within, Gathered}
 use Rattle.spec_laws.specs.BitsLaws.{gathered-once, gathered-fits, share-none}
 use Rattle.spec_laws.specs.GatherLaws.{gathered-some}
@@ -47,7 +48,6 @@ use Rattle.spec_laws.specs.RoundsLaws.{part-settles, part-number, part-f
 use Rattle.spec.specs.Fault.{faultLines}
 use Rattle.spec_laws.specs.FaultLaws.{catalogue-explained, form-explained, equal-explained, loops-explained}
 use Rattle.spec_laws.specs.FaultLaws.{check-explained, fault-numbered}
-use Rattle.spec.specs.Program.{programLines}
 use Rattle.spec_laws.specs.VerdictLaws.{verdict-printed, verdict-cores}
 use Rattle.spec_laws.specs.LoopLaws.{loops-pass, none-joins, check-pass}
 use Rattle.spec.specs.Join.{Joins}
@@ -322,18 +322,24 @@ demand-fault =
 pub demand-program : ProgramDemand
 demand-program = record { verdict = verdict-printed; either-core = verdict-cores }
 
--- Line 10
+-- Line 10, retired
 
-loops-settled : (c v w area : List ℕ) (p i : ℕ) → ¬ FirstHolds (line 10 p i) (loopsLines c v w area)
+loops-settled : (c v w area : List ℕ) (p i : ℕ)
+    → ¬ FirstHolds (line 10 p i) (loopsLines c v w area ++ unsettledLines c v w)
 loops-settled c v w area =
     never-ten c v w (areaLine 0 (leadInRoom c v w) area ∷ [])
     (holds-up-to 9 (line 9 0 0) (omega arith, omega arith, omega arith) (ltb (length area) (leadInRoom c v w)), tt)
 
-program-settled : (c v w : List ℕ) (p i : ℕ) → ¬ FirstHolds (line 10 p i) (programLines c v w)
-program-settled c v w = never-ten c v w [] tt
-
 pub demand-retired : RetiredDemand
-demand-retired = record { settled = plans-settled; loops = loops-settled; program = program-settled }
+demand-retired =
+    record {
+      settled = plans-settled;
+      loops = loops-settled;
+      program = λ c v w. never-ten c v w [] tt;
+      loops-same = λ c v w area. retired-same c v w (areaLine 0 (leadInRoom c v w) area ∷ []);
+      program-same = λ c v w. retired-same c v w [];
+      unused = number-unused;
+    }
 
 -- What the manual says of all plans
 

@@ -15,11 +15,7 @@ use Rattle.spec_laws.specs.LineLaws.{UpTo, Numbered, plan-up-to, two-up-
 use Rattle.spec.specs.Catalogue.{commands, catalogueLines}
 use Rattle.spec.specs.Plan.{planLines}
 use Rattle.spec.specs.Calls.{planLimit, areaLine, normalFormLines, equalLines}
-use Rattle.spec_laws.specs.CallLaws.{few-commands}
-use Rattle.spec.specs.Retired.{unsettledLine}
 use Rattle.spec.specs.Loops.{leadInRoom, leadInLimit, loopsLines, checkLines}
-use Rattle.spec_laws.specs.LoopLaws.{two-pass}
-use Rattle.spec_laws.specs.RetiredLaws.{never-unsettled}
 use Rattle.spec.specs.Fault.{faultLines, faultAnswer}
 use Rattle.spec.specs.Demands.{Explains}
 
@@ -39,13 +35,13 @@ area-nines i need area ls h l e = go (ltb (length area) need) e
 
 -- a call whose plans have the lines `own`: the lines of empty plans do not hold, and what comes later are areas
 explained : (c v w u : List ℕ) (own none-of later : List (Option Line)) → faultLines c v w u ≡ own ++ none-of
-    → firstLine none-of ≡ none → (firstLine own ≡ none → Nines later) → Explains c v w u (own ++ later)
+    → firstLine none-of ≡ none → Nines later → Explains c v w u (own ++ later)
 explained c v w u own none-of later s n h =
     record {
       refuses = λ l e. first-holds (own ++ later) l .0 (first-early own later (first-left own none-of n (whole e)));
       else-area = λ e l f.
           let k = none-left own none-of (whole e) in
-          h k l (sym (first-late own later k) ∙ first-holds (own ++ later) l .1 f);
+          h l (sym (first-late own later k) ∙ first-holds (own ++ later) l .1 f);
     }
   where
     whole : {o : Option Line} → faultAnswer c v w u ≡ o → firstLine (own ++ none-of) ≡ o
@@ -69,39 +65,29 @@ module _ (c : List ℕ) where
   unfolding firstOf
   catalogue-explained =
       explained c [] [] [] (catalogueLines c) (planLines 1 planLimit (commands c) [] ++ empty2) [] refl refl
-      (λ k. no-nines)
+      no-nines
 
   pub form-explained : (v area : List ℕ) → Explains c v [] [] (normalFormLines c v area)
   unfolding firstOf
   form-explained v area =
       explained c v [] [] (one v) empty2 (areaLine 0 (length v) area ∷ []) refl refl
-      (λ k. area-nines 0 (length v) area [] no-nines)
+      (area-nines 0 (length v) area [] no-nines)
 
   pub equal-explained : (v w : List ℕ) → Explains c v w [] (equalLines c v w)
   unfolding firstOf
-  equal-explained v w = explained c v w [] (two v w) empty3 [] refl refl (λ k. no-nines)
+  equal-explained v w = explained c v w [] (two v w) empty3 [] refl refl no-nines
 
   pub loops-explained : (v w area : List ℕ) → Explains c v w [] (loopsLines c v w area)
   unfolding firstOf
   loops-explained v w area =
-      explained c v w [] (two v w) empty3
-      (areaLine 0 (leadInRoom c v w) area ∷ unsettledLine 1 c v ∷ unsettledLine 2 c w ∷ []) refl refl areas
-    where
-      areas : firstLine (two v w) ≡ none
-          → Nines (areaLine 0 (leadInRoom c v w) area ∷ unsettledLine 1 c v ∷ unsettledLine 2 c w ∷ [])
-      areas k =
-          let (hv, hw) = two-pass c v w [] k in
-          let n = commands c in
-          let few = few-commands c
-          (none-left (catalogueLines c) (planLines 1 planLimit n v) (none-left (one v) (planLines 2 planLimit n w) k)) in
-          rw (never-unsettled 1 c v few hv, never-unsettled 2 c w few hw)
-          (area-nines 0 (leadInRoom c v w) area (none ∷ none ∷ []) no-nines)
+      explained c v w [] (two v w) empty3 (areaLine 0 (leadInRoom c v w) area ∷ []) refl refl
+      (area-nines 0 (leadInRoom c v w) area [] no-nines)
 
   pub check-explained : (v w u area0 area1 : List ℕ) → Explains c v w u (checkLines c v w u area0 area1)
   check-explained v w u area0 area1 =
       let later = areaLine 1 (length u + length w) area1 ∷ [] in
       explained c v w u (faultLines c v w u) [] (areaLine 0 (length v + length u) area0 ∷ later) refl refl
-      (λ k. area-nines 0 (length v + length u) area0 later (area-nines 1 (length u + length w) area1 [] no-nines))
+      (area-nines 0 (length v + length u) area0 later (area-nines 1 (length u + length w) area1 [] no-nines))
 
   pub fault-numbered : (v w u : List ℕ) (l : Line) → faultAnswer c v w u ≡ some l → Numbered 8 l
   fault-numbered v w u l e =

@@ -21,7 +21,6 @@ use Rattle.spec_laws.specs.StepLaws.{kept}
 use Rattle.spec.specs.Answers.{DecidedLoops}
 use Rattle.spec.specs.Calls.{planLimit, areaLine}
 use Rattle.spec_laws.specs.CallLaws.{answer-given}
-use Rattle.spec.specs.Retired.{unsettledLine}
 use Rattle.spec.specs.Loops.{leadInRoom, loopsLines, leadInLimit, checkLines}
 
 -- two plans that no line refuses
@@ -46,8 +45,7 @@ two-pass c v w ls e = (
 
 pub loops-pass : (c v w area : List ℕ) → firstLine (loopsLines c v w area) ≡ none
     → Passing (commands c) v × Passing (commands c) w
-loops-pass c v w area e =
-    two-pass c v w (areaLine 0 (leadInRoom c v w) area ∷ unsettledLine 1 c v ∷ unsettledLine 2 c w ∷ []) e
+loops-pass c v w area e = two-pass c v w (areaLine 0 (leadInRoom c v w) area ∷ []) e
 
 -- answers that are the same tell the same of the lead-in
 pub lead-in-same : {a b : DecidedLoops} → given a ≡ given b → a .lead-in ≡ b .lead-in

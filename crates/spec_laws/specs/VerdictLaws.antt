@@ -3,7 +3,7 @@
 use Prim.Native.Nat.{ℕ}
 use mathlib.Core.Path.{_≡_, refl, sym, _∙_, ap}
 use mathlib.Core.Bool.{Bool, true, false}
-use mathlib.Core.List.{List, [], _∷_}
+use mathlib.Core.List.{List, []}
 use mathlib.Core.Option.{Option, none, some}
 use mathlib.Core.Logic.{_↔_}
 use native.Mathlib.Omega.{arith}
@@ -18,7 +18,6 @@ use Rattle.spec.specs.Join.{Joins}
 use Rattle.spec.specs.Calls.{coreForm}
 use Rattle.spec_laws.specs.TableLaws.{none-some}
 use Rattle.spec_laws.specs.CallLaws.{answer-given}
-use Rattle.spec.specs.Retired.{unsettledLine}
 use Rattle.spec_laws.specs.LoopLaws.{two-pass, some-joins}
 use Rattle.spec_laws.specs.CoreFormLaws.{cores-long}
 use Rattle.spec.specs.Framing.{wellFramed, catalogueOf, plan1Of, plan2Of}
@@ -43,7 +42,7 @@ verdict-given s o e =
     let d = joined-step (joined? (alphabet c) (letters v) (letters w)) (length (coreForm c v)) in
     let f = framed-given (wellFramed s) (loopsVerdict c v w) e in
     let (n, q) = answer-given (firstLine (programLines c v w)) d o f in
-    record { passing = two-pass c v w (unsettledLine 1 c v ∷ unsettledLine 2 c w ∷ []) n; decided = q }
+    record { passing = two-pass c v w [] n; decided = q }
 
 step-true : (t : Bool) (n l : ℕ) → joined-step t n ≡ some l → (t ≡ true) × (l ≡ n)
 step-true true n l e = (refl, cc)
