@@ -72,6 +72,23 @@ def wrapped(text, width):
     return lines
 
 
+def through(line, box):
+    """Whether a line passes through a box."""
+    (x1, y1, x2, y2), (x, y, wide, tall) = line, box
+    steps = [(x1 + (x2 - x1) * k / 100, y1 + (y2 - y1) * k / 100) for k in range(1, 100)]
+    return any(x < a < x + wide and y < b < y + tall for a, b in steps)
+
+
+def arrow(upper, lower, boxes):
+    """From the bottom of one box to the top of another: from middle to middle, or as near to that as passes through no
+    box. The boxes are drawn over the arrows, so that one that passes behind a box would seem to start there."""
+    (x, y, wide, tall), (a, b, w, _) = upper, lower
+    shifts = range(-48, 49, 12)
+    ways = [(x + wide // 2 + wide * i // 100, y + tall, a + w // 2 + w * j // 100, b)
+            for i, j in sorted(((i, j) for i in shifts for j in shifts), key=lambda s: (abs(s[0]) + abs(s[1]), s))]
+    return next((way for way in ways if not any(through(way, box) for box in boxes)), ways[0])
+
+
 def draw():
     crates, purpose, uses = read()
     arrows, level = reduced(uses), levels(uses)
@@ -95,12 +112,11 @@ def draw():
            '<defs><marker id="end" viewBox="0 0 8 8" refX="7" refY="4" markerWidth="7" markerHeight="7" orient="auto">'
            '<path d="M0 0 8 4 0 8z" fill="#555"/></marker></defs>',
            '<rect width="%d" height="%d" fill="#fff"/>' % (width, height)]
+    frames = {g: (boxes[g][0] + shift[g],) + boxes[g][1:4] for g in crates}
     for g in crates:
-        x, y, wide, tall, _ = boxes[g]
         for d in sorted(arrows[g]):
-            a, b, w, t, _ = boxes[d]
             out.append('<line x1="%d" y1="%d" x2="%d" y2="%d" stroke="#555" marker-end="url(#end)"/>'
-                       % (x + shift[g] + wide // 2, y + tall, a + shift[d] + w // 2, b))
+                       % arrow(frames[g], frames[d], frames.values()))
     for g in crates:
         x, y, wide, tall, texts = boxes[g]
         x += shift[g]

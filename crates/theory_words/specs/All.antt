@@ -26,6 +26,10 @@ module _ {A : Type 0} (P : A → Type 0) where
   all-at (a ∷ w) zero d h l = h .0
   all-at (a ∷ w) (suc i) d h l = all-at w i d (h .1) (omega arith)
 
+  pub all-from : (w : List A) (d : A) → ((i : ℕ) → i < length w → P (getD w i d)) → All w
+  all-from [] d f = tt
+  all-from (a ∷ w) d f = (f 0 (omega arith), all-from w d (λ i l. f (suc i) (omega arith)))
+
   pub all-append : (u v : List A) → All u → All v → All (u ++ v)
   all-append [] v h k = k
   all-append (a ∷ u) v h k = (h .0, all-append u v (h .1) k)

@@ -145,6 +145,10 @@ module _ (Γ : Alphabet) where
   apart-factors c [] w p = (tt, p)
   apart-factors c (b ∷ v) w p = let (q, r) = apart-factors c v w (p .1) in ((p .0, q), r)
 
+  pub apart-append : (c : Letter) (v w : Word Γ) → Apart c v → Apart c w → Apart c (v ++ w)
+  apart-append c [] w p q = q
+  apart-append c (b ∷ v) w p q = (p .0, apart-append c v w (p .1) q)
+
   pub apart-along : {v w : Word Γ} → v ~ w → (c : Letter) → Apart c v → Apart c w
   apart-along done c p = p
   apart-along (cons e) c p = (p .0, apart-along e c (p .1))
