@@ -92,7 +92,8 @@ enum busplan_refusal {
     BUSPLAN_PAIRS_SIZE = 12,    /* from Rattle alone: too little room for the places of the letters that cancelled */
     BUSPLAN_TEXT = 13,          /* a text that is not in the notation */
     BUSPLAN_NESTING = 14,       /* a text whose brackets nest deeper than 8 */
-    BUSPLAN_WRITTEN_SIZE = 15   /* a text whose plan, written out, is over 1,024 bytes */
+    BUSPLAN_WRITTEN_SIZE = 15,  /* a text whose plan, written out, is over 1,024 bytes */
+    BUSPLAN_PLACES = 16         /* a pair of places that is not two different places of the normal form */
 };
 
 /* What a call's answer says if it is a refusal, in English, without the plan and the place. */
@@ -112,6 +113,7 @@ static inline const char *busplan_refusal_text(int64_t answer) {
     case -BUSPLAN_TEXT: return "a text is not in the notation";
     case -BUSPLAN_NESTING: return "a text has brackets that nest deeper than 8";
     case -BUSPLAN_WRITTEN_SIZE: return "the plan of a text is over 1,024 bytes when it is written out";
+    case -BUSPLAN_PLACES: return "a pair of places is not two different places of the normal form";
     default: return answer < 0 ? "no refusal of this library" : "not refused";
     }
 }

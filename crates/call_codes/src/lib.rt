@@ -36,6 +36,7 @@ pub fn number(reason: Reason) -> u8
         Reason::Text => 13,
         Reason::Nesting => 14,
         Reason::WrittenSize => 15,
+        Reason::Places => 16,
     }
 }
 

@@ -16,6 +16,10 @@ use Rattle.spec.specs.declared.Loops.the-variants as loops
 use Rattle.spec.specs.declared.LeadIn.{LeadIn}
 use Rattle.spec.specs.declared.LeadIn.the-variants as lead-in
 use Rattle.spec.specs.declared.Lengths.{Lengths}
+use Rattle.spec.specs.declared.Slots.{Slots}
+use Rattle.spec.specs.declared.Slots.the-variants as slots
+use Rattle.spec.specs.declared.Precedence.{Precedence}
+use Rattle.spec.specs.declared.Precedence.the-variants as precedence
 use Rattle.spec.specs.declared.Fault.{Fault}
 use Rattle.spec.specs.declared.Fault.the-variants as fault
 
@@ -72,6 +76,21 @@ abbrev pub toldLeadIn : LeadIn → Answer CheckedLeadIn
 toldLeadIn (lead-in.Yes l) = given (checked true l)
 toldLeadIn (lead-in.No l) = given (checked false l)
 toldLeadIn (lead-in.Refused r) = refused (lineOf r)
+
+-- the length of a normal form, with the number of slots in use
+pub record SlotCounts : Type 0 where
+  pub length : ℕ
+  pub in-use : ℕ
+
+abbrev pub toldSlots : Slots → Answer SlotCounts
+toldSlots (slots.Numbered l n) = given (record { length = l; in-use = n })
+toldSlots (slots.Refused r) = refused (lineOf r)
+
+-- yes, no, or a refusal
+abbrev pub toldPrecedence : Precedence → Answer Bool
+toldPrecedence precedence.Yes = given true
+toldPrecedence precedence.No = given false
+toldPrecedence (precedence.Refused r) = refused (lineOf r)
 
 -- a line, or none
 abbrev pub toldFault : Fault → Option Line

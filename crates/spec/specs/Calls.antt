@@ -25,7 +25,7 @@ coreForm c v = nf (alphabet c) (core (alphabet c) (letters v))
 abbrev pub planLimit : ℕ
 planLimit = 1024
 
--- line 9: area i is smaller than `need` bytes
+-- line 9: area i has fewer than `need` bytes or numbers
 abbrev pub areaLine : ℕ → ℕ → List ℕ → Option Line
 areaLine i need area = holds (ltb (length area) need) (line 9 0 i)
 

@@ -2,13 +2,15 @@
 -- the crate spec_laws proves it (CasesHold).
 use Prim.Native.Nat.{ℕ, _/_}
 use mathlib.Core.Path.{_≡_}
-use mathlib.Core.Bool.{true}
+use mathlib.Core.Bool.{Bool, true, false}
 use mathlib.Core.List.{List, [], _∷_, _++_}
 use mathlib.Core.Option.{none, some}
 use lib.ListN.{length, drop, replicate}
-use Rattle.spec.specs.Table.{Answer, given, NoneHolds}
+use Rattle.spec.specs.Table.{Answer, given, refused, line, NoneHolds}
 use Rattle.spec.specs.Calls.{normalFormAnswer, normalFormArea, coreAnswer, coreArea, equalAnswer}
 use Rattle.spec.specs.Calls.{pairedAnswer, pairedArea, pairedNumbers}
+use Rattle.spec.specs.Slots.{slotsAnswer, slotsArea, slotsNumbers}
+use Rattle.spec.specs.Precedence.{precedenceAnswer}
 use Rattle.spec.specs.Loops.{leadInRoom, loopsLines, Looped, checkAnswer, checkArea0, checkArea1}
 
 -- catalogue K: conflicts 1-2, 2-3, 3-4
@@ -31,6 +33,12 @@ pub data Row : Type 0 where
   normal : List ℕ → List ℕ → Row
   -- a plan, its normal form, and the places of the letters that cancel, two by two
   pairs : List ℕ → List ℕ → List ℕ → Row
+  -- a plan, its normal form, the slots of that, and how many are in use
+  slots : List ℕ → List ℕ → List ℕ → ℕ → Row
+  -- a plan, places in its normal form, two by two, and whether the first of each two stays before the second
+  precedence : List ℕ → List ℕ → Bool → Row
+  -- a plan, places, and the number of the first faulty pair
+  places : List ℕ → List ℕ → ℕ → Row
   -- a plan and its core, in normal form
   cored : List ℕ → List ℕ → Row
   -- two equal plans
@@ -55,6 +63,12 @@ Yields (pairs v z ns) =
     (pairedAnswer K v v v ≡ given (record { length = length z; pairs = length ns / 2 }))
     × (pairedArea K v v v ≡ z ++ drop (length z) v)
     × (pairedNumbers K v v v ≡ ns ++ drop (length ns) v)
+Yields (slots v z ns n) =
+    (slotsAnswer K v v v ≡ given (record { length = length z; in-use = n }))
+    × (slotsArea K v v v ≡ z ++ drop (length z) v)
+    × (slotsNumbers K v v v ≡ ns ++ drop (length ns) v)
+Yields (precedence v ns b) = precedenceAnswer K v ns ≡ given b
+Yields (places v ns p) = precedenceAnswer K v ns ≡ refused (line 16 0 p)
 Yields (cored v z) = Writes (coreAnswer K v v) (coreArea K v v) v z
 Yields (equal v w) = equalAnswer K v w ≡ given true
 Yields (joined v w u z n) =
@@ -72,8 +86,8 @@ abbrev pub Every : List Row → Type 0
 Every [] = Unit {0}
 Every (r ∷ rs) = Yields r × Every rs
 
--- cases 1 to 7 and 9 to 11, the slip about the core that tests only the letters written first and last, rounds, and
--- pairs
+-- cases 1 to 7 and 9 to 11, the slip about the core that tests only the letters written first and last, rounds, pairs,
+-- slots and precedence
 abbrev pub starred : List Row
 starred =
     normal [] []
@@ -99,6 +113,17 @@ starred =
     ∷ pairs (1 ∷ 2 ∷ undo2 ∷ undo1 ∷ []) [] (1 ∷ 2 ∷ 0 ∷ 3 ∷ [])
     ∷ pairs (1 ∷ undo1 ∷ 1 ∷ undo1 ∷ []) [] (0 ∷ 1 ∷ 2 ∷ 3 ∷ [])
     ∷ pairs (1 ∷ 1 ∷ undo1 ∷ undo1 ∷ []) [] (1 ∷ 2 ∷ 0 ∷ 3 ∷ [])
+    ∷ slots [] [] [] 0
+    ∷ slots (1 ∷ 3 ∷ 2 ∷ 4 ∷ []) (1 ∷ 3 ∷ 2 ∷ 4 ∷ []) (0 ∷ 0 ∷ 1 ∷ 1 ∷ []) 2
+    ∷ slots (1 ∷ 1 ∷ 1 ∷ []) (1 ∷ 1 ∷ 1 ∷ []) (0 ∷ 1 ∷ 2 ∷ []) 3
+    ∷ slots (4 ∷ 2 ∷ 3 ∷ 0 ∷ undo3 ∷ 1 ∷ []) (2 ∷ 1 ∷ 4 ∷ []) (0 ∷ 1 ∷ 0 ∷ []) 2
+    ∷ precedence [] [] true
+    ∷ precedence (1 ∷ 2 ∷ 3 ∷ []) (0 ∷ 2 ∷ []) true
+    ∷ precedence (1 ∷ 2 ∷ 3 ∷ []) (0 ∷ 2 ∷ 2 ∷ 1 ∷ []) false
+    ∷ precedence (1 ∷ 3 ∷ 2 ∷ []) (0 ∷ 1 ∷ []) false
+    ∷ places (1 ∷ 2 ∷ []) (0 ∷ 0 ∷ []) 0
+    ∷ places (1 ∷ 2 ∷ []) (1 ∷ 0 ∷ 0 ∷ []) 1
+    ∷ places (1 ∷ 2 ∷ []) (0 ∷ 1 ∷ 0 ∷ 2 ∷ []) 1
     ∷ []
 
 -- the sentence: every row of the table is what the definitions yield

@@ -1,14 +1,14 @@
 -- What the console gets for each answer: a length, or yes (1) or no (0); for loops the lead-in's length plus 1, or 0
--- for apart, without the rounds; and minus the refusal number. Of a fault it gets that number too, or 0 where there is
--- none.
+-- for apart, without the rounds; for slots the length, with the number in use beside it; and minus the refusal number.
+-- Of a fault it gets that number too, or 0 where there is none.
 use Prim.Native.Nat.{ℕ, suc}
 use mathlib.Core.Path.{_≡_}
 use mathlib.Core.Bool.{Bool}
-use mathlib.Core.List.{List}
+use mathlib.Core.List.{List, [], _∷_}
 use mathlib.Core.Option.{Option, none, some}
 use lib.IntN.{ℤ, pos, negℤ}
 use Rattle.spec.specs.Table.{Line, Answer, refused, given}
-use Rattle.spec.specs.Answers.{yesNo, DecidedLoops, CheckedLeadIn}
+use Rattle.spec.specs.Answers.{yesNo, DecidedLoops, CheckedLeadIn, SlotCounts}
 use Rattle.spec.specs.Loops.{Looped}
 
 abbrev pub lineCode : Line → ℤ
@@ -33,6 +33,22 @@ loopsCode = code (λ d. leadInCode (d .lead-in))
 
 abbrev pub checkCode : Answer CheckedLeadIn → ℤ
 checkCode = code (λ k. yesNo (k .yes))
+
+abbrev pub slotsCode : Answer SlotCounts → ℤ
+slotsCode = code (λ k. k .length)
+
+-- one lent number afterwards: how many slots are in use, and as it was where the call is refused
+abbrev pub inUseNumber : Answer SlotCounts → List ℕ → List ℕ
+inUseNumber (given k) old = k .in-use ∷ []
+inUseNumber (refused l) old = old
+
+abbrev pub precedenceCode : Answer Bool → ℤ
+precedenceCode = equalCode
+
+-- what an answer is refused for, if it is
+abbrev pub refusedBy : {A : Type 0} → Answer A → Option Line
+refusedBy (given a) = none
+refusedBy (refused l) = some l
 
 abbrev pub faultCode : Option Line → ℤ
 faultCode none = pos 0

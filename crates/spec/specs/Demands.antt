@@ -1,8 +1,9 @@
 -- What was bought: the demands, as statements without proofs. The contract of each call says that the call, on any
--- bytes, answers what its definition says (Calls, Loops) and leaves its areas as its definition says; here stands what
--- that is worth, over steps (Step), their order (Order), pairs (Core), lead-ins (Join), rounds (Rounds) and bits (Bits)
--- alone, and that no input reached the line that is retired (Retired). The crate spec_laws proves each demand as one
--- value (DemandsMet), the crate loops_framing that of the program's input.
+-- bytes, answers what its definition says (Calls, Slots, Precedence, Loops) and leaves its areas as that says; here
+-- stands what that is worth, over steps (Step), their order (Order), pairs (Core), lead-ins (Join), slots (Slots),
+-- arrangements (Precedence), rounds (Rounds) and bits (Bits) alone, and that no input reached the line that is retired
+-- (Retired). The crate spec_laws proves each demand as one value (DemandsMet), the crate loops_framing that of the
+-- program's input.
 use Prim.Native.Nat.{ℕ, _+_, _*_, _^_, _≤_, _<_}
 use mathlib.Core.Path.{_≡_}
 use mathlib.Core.Bool.{Bool, true, false}
@@ -23,11 +24,14 @@ use Rattle.spec.specs.Step.{Command, Equal}
 use Rattle.spec.specs.Order.{Earlier}
 use Rattle.spec.specs.Join.{Joins}
 use Rattle.spec.specs.Core.{Swaps, Least, CyclicallyReduced, TakenOff}
-use Rattle.spec.specs.Answers.{yesNo, FormCounts, DecidedLoops, CheckedLeadIn}
+use Rattle.spec.specs.Answers.{yesNo, FormCounts, SlotCounts, DecidedLoops, CheckedLeadIn}
 use Rattle.spec.specs.Pairs.{pairNumbers, Accounts}
 use Rattle.spec.specs.Calls.{planLimit, normalFormAnswer, normalFormArea, coreForm, coreAnswer, coreArea}
 use Rattle.spec.specs.Calls.{catalogueAnswer, catalogueTable, normalFormLines, equalLines, equalAnswer}
 use Rattle.spec.specs.Calls.{pairedLines, pairedAnswer, pairedArea, pairedNumbers}
+use Rattle.spec.specs.Letters.{normalForm}
+use Rattle.spec.specs.Slots.{Fits, Numbered, slotsLines, slotsAnswer, slotsArea, slotsNumbers}
+use Rattle.spec.specs.Precedence.{StaysBefore, Chain, FirstFaulty, placesLine, precedenceLines, precedenceAnswer}
 use Rattle.spec.specs.Rounds.{IsPart, Settles, Needs}
 use Rattle.spec.specs.Bits.{Within, Gathered}
 use Rattle.spec.specs.Loops.{loopsLines, Looped, LeadIn, checkLines, checkAnswer}
@@ -71,19 +75,54 @@ pub record Demand2 : Type 0 where
   pub normal-form : (c v area : List ℕ) (l : ℕ) → normalFormAnswer c v area ≡ given l
       → (length (take l (normalFormArea c v area)) ≡ l) × Shortest c v (take l (normalFormArea c v area))
 
--- What cancelled. A normal form call with a second area is refused for what one without is, or else by line 12. Where
--- it is not refused, its length and its first area are those of the call without, and the second area starts with the
--- M pairs told, two numbers each: what the reading from left to right finds, in its order. Past them it is as it was.
--- That reading accounts for every letter of the plan.
+-- What cancelled. A normal form call with a second area is refused exactly for what one without is, or else by line 12,
+-- for an area of fewer numbers than the plan has bytes. Where it is not refused, its length and its first area are those
+-- of the call without, and the second area starts with the M pairs told, two numbers each: what the reading from left to
+-- right finds, in its order. Past them it is as it was. That reading accounts for every letter of the plan.
 pub record PairsDemand : Type 0 where
   pub refused-alike : (c v area pairs : List ℕ) (l : Line) → FirstHolds l (pairedLines c v area pairs)
-      → FirstHolds l (normalFormLines c v area) ⊎ (NoneHolds (normalFormLines c v area) × (l ≡ line 12 0 1))
+      ↔ (FirstHolds l (normalFormLines c v area)
+      ⊎ (NoneHolds (normalFormLines c v area) × (length pairs < length v) × (l ≡ line 12 0 1)))
   pub form-alike : (c v area pairs : List ℕ) (k : FormCounts) → pairedAnswer c v area pairs ≡ given k
       → (normalFormAnswer c v area ≡ given (k .length)) × (pairedArea c v area pairs ≡ normalFormArea c v area)
   pub pairs : (c v area pairs : List ℕ) (k : FormCounts) → pairedAnswer c v area pairs ≡ given k
       → (length (take (2 * k .pairs) (pairedNumbers c v area pairs)) ≡ 2 * k .pairs)
       × (take (2 * k .pairs) (pairedNumbers c v area pairs) ≡ pairNumbers c v)
       × (drop (2 * k .pairs) (pairedNumbers c v area pairs) ≡ drop (2 * k .pairs) pairs) × Accounts c v
+
+-- Slots. A slots call is refused exactly for what a normal form call is, or else by line 9 for a second area of fewer
+-- numbers than the plan has bytes. Where it is not refused, its length and its first area are those of the normal form
+-- call, and the second area starts with a slot for each letter: these fit, each is the smallest that fits, and no other
+-- numbers that fit use fewer slots. Past them the second area is as it was.
+pub record SlotsDemand : Type 0 where
+  pub refused-alike : (c v area numbers : List ℕ) (l : Line) → FirstHolds l (slotsLines c v area numbers)
+      ↔ (FirstHolds l (normalFormLines c v area)
+      ⊎ (NoneHolds (normalFormLines c v area) × (length numbers < length v) × (l ≡ line 9 0 1)))
+  pub form-alike : (c v area numbers : List ℕ) (k : SlotCounts) → slotsAnswer c v area numbers ≡ given k
+      → (normalFormAnswer c v area ≡ given (k .length)) × (slotsArea c v area numbers ≡ normalFormArea c v area)
+  pub slots : (c v area numbers : List ℕ) (k : SlotCounts) → slotsAnswer c v area numbers ≡ given k
+      → (length (take (k .length) (slotsNumbers c v area numbers)) ≡ k .length)
+      × Numbered c (take (k .length) (slotsArea c v area numbers)) (take (k .length) (slotsNumbers c v area numbers))
+      (k .in-use)
+      × (drop (k .length) (slotsNumbers c v area numbers) ≡ drop (k .length) numbers)
+
+-- Precedence. A precedence check is refused exactly for what the fault call tells of its plan, or else by line 16, and
+-- that exactly at the first faulty pair. Where it is not refused, it says yes exactly if the first letter of each pair
+-- stays before the second in every arrangement of the normal form. One letter stays before another exactly if a chain
+-- of conflicting letters leads from it to the other, and never before an earlier one; so it has the smaller slot.
+pub record PrecedenceDemand : Type 0 where
+  pub refused-alike : (c v ns : List ℕ) (l : Line) → FirstHolds l (precedenceLines c v ns)
+      ↔ ((faultAnswer c v [] [] ≡ some l)
+      ⊎ ((faultAnswer c v [] [] ≡ none) × (placesLine (length (normalForm c v)) ns ≡ some l)))
+  pub faulty : (n : ℕ) (ns : List ℕ) (l : Line)
+      → (placesLine n ns ≡ some l) ↔ ((p : ℕ) × (l ≡ line 16 0 p) × FirstFaulty n ns p)
+  pub form : (c v : List ℕ) → faultAnswer c v [] [] ≡ none → Shortest c v (normalForm c v)
+  pub precedence : (c v ns : List ℕ) (b : Bool) → precedenceAnswer c v ns ≡ given b
+      → (b ≡ true) ↔ ((p : ℕ) → 2 * p < length ns
+      → StaysBefore c (normalForm c v) (getD ns (2 * p) 0) (getD ns (2 * p + 1) 0))
+  pub chain : (c z : List ℕ) (i j : ℕ) → StaysBefore c z i j ↔ Chain c z i j
+  pub backwards : (c z : List ℕ) (i j : ℕ) → j ≤ i → ¬ StaysBefore c z i j
+  pub smaller : (c z ns : List ℕ) (i j : ℕ) → StaysBefore c z i j → Fits c z ns → getD ns i 0 < getD ns j 0
 
 -- z is the core of v: v is equal to some g, z, undo of g; z is cyclically reduced, and a normal form; it is left when
 -- pairs are taken off some shortest plan of v's effect, and what is left of any of them, in any way, has its effect
@@ -164,13 +203,15 @@ pub record Explains (c v w u : List ℕ) (ls : List (Option Line)) : Type 0 wher
   pub else-area : faultAnswer c v w u ≡ none → (l : Line) → FirstHolds l ls → l .number ≡ 9
 
 -- The fault call tells exactly the first of lines 1 to 8 that holds, of the catalogue or of plan 1, 2 or 3, and so it
--- explains each refusal of each call, with empty plans where the call has fewer (PairsDemand has line 12).
+-- explains each refusal of each call, with empty plans where the call has fewer (PairsDemand has line 12,
+-- PrecedenceDemand line 16).
 pub record FaultDemand : Type 0 where
   pub exactly : (c v w u : List ℕ) (l : Line) → (faultAnswer c v w u ≡ some l) ↔ FirstHolds l (faultLines c v w u)
   pub among : (c v w u : List ℕ) (l : Line) → faultAnswer c v w u ≡ some l
       → (1 ≤ l .number) × (l .number ≤ 8) × (l .plan ≤ 3)
   pub catalogue : (c : List ℕ) → Explains c [] [] [] (catalogueLines c)
   pub form : (c v area : List ℕ) → Explains c v [] [] (normalFormLines c v area)
+  pub slots : (c v area numbers : List ℕ) → Explains c v [] [] (slotsLines c v area numbers)
   pub equal : (c v w : List ℕ) → Explains c v w [] (equalLines c v w)
   pub loops : (c v w area : List ℕ) → Explains c v w [] (loopsLines c v w area)
   pub check : (c v w u area0 area1 : List ℕ) → Explains c v w u (checkLines c v w u area0 area1)

@@ -13,6 +13,8 @@ pub mod Letters
 pub mod Answers
 pub mod Pairs
 pub mod Calls
+pub mod Slots
+pub mod Precedence
 pub mod Rounds
 pub mod Bits
 pub mod Loops

@@ -19,9 +19,11 @@ pub enum Reason {
     Text,
     Nesting,
     WrittenSize,
+    Places,
 }
 
-// plan is 1, 2 or 3 in the order given, and 0 for the catalogue; place counts from 0.
+// plan is 1, 2 or 3 in the order given, and 0 for the catalogue, for areas and for places. place counts from 0: it is
+// that of a byte, the number of an area, or that of a pair of places.
 pub struct Refusal {
     pub reason: Reason,
     pub plan: u8,
@@ -71,6 +73,20 @@ pub struct Lengths {
 pub enum LeadIn {
     Yes(Lengths),
     No(Lengths),
+    Refused(Refusal),
+}
+
+// A normal form with a slot beside each letter: its length, where it stands at the start of the area and the slots at
+// the start of the second area, and how many different slots there are.
+pub enum Slots {
+    Numbered { length: usize, in_use: usize },
+    Refused(Refusal),
+}
+
+// Whether the first letter of each pair stays before the second.
+pub enum Precedence {
+    Yes,
+    No,
     Refused(Refusal),
 }
 

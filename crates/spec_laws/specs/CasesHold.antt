@@ -22,6 +22,7 @@ use Rattle.theory_conjugacy.specs.Rounds.{part-rounds, most-rounds, core-rounds
 use Rattle.theory_conjugacy.specs.Rotation.{search-step, search, rotation}
 use Rattle.theory_conjugacy.specs.Decision.{found?, settled-ring, part-ring, rotated?, parts-joined?}
 use Rattle.theory_conjugacy.specs.Decision.{cores-joined?, joined?}
+use Rattle.theory_schedules.specs.Precedence.{raised}
 use Rattle.spec.specs.Table.{given, firstLine, firstOf}
 use Rattle.spec_laws.specs.TableLaws.{none-holds}
 use Rattle.spec.specs.Catalogue.{ends, follow, stands}
@@ -31,6 +32,8 @@ use Rattle.spec.specs.Byte.{undone}
 use Rattle.spec.specs.Letters.{letters, alphabet, normalForm}
 use Rattle.spec.specs.Pairs.{partner, readByte, readFrom, reading}
 use Rattle.spec.specs.Calls.{coreForm}
+use Rattle.spec.specs.Slots.{above, slotsAfter, different}
+use Rattle.spec.specs.Precedence.{leads}
 use Rattle.spec.specs.Join.{Joins}
 use Rattle.spec.specs.Rounds.{loopsRounds}
 use Rattle.spec.specs.Loops.{leadInRoom, loopsLines, apart, joined}
@@ -71,7 +74,7 @@ unfolding firstOf without-step without act-step act reduce meets firsts least-st
     relabel-step relabel merge-step Part.commands merge merge-row merge-all labels label apexes share part hit
     put split settled-step settled ring counted-step counted part-rounds most-rounds core-rounds loopsRounds
     agree-step agree search-step search rotation found? settled-ring part-ring rotated? parts-joined? cores-joined?
-    joined? keepIf filter partner readByte readFrom reading
+    joined? keepIf filter partner readByte readFrom reading above slotsAfter different raised leads
 starred-hold =
     (refl, refl)
     & (refl, refl)
@@ -97,4 +100,15 @@ starred-hold =
     & (refl, refl, refl)
     & (refl, refl, refl)
     & (refl, refl, refl)
+    & (refl, refl, refl)
+    & (refl, refl, refl)
+    & (refl, refl, refl)
+    & (refl, refl, refl)
+    & refl
+    & refl
+    & refl
+    & refl
+    & refl
+    & refl
+    & refl
     & tt

@@ -17,8 +17,11 @@ use Rattle.spec_laws.specs.NormalFormLaws.{normal-length}
 use Rattle.spec_laws.specs.CoreFormLaws.{core-form-length}
 use Rattle.spec.specs.declared.Written.{Written}
 use Rattle.spec.specs.declared.Written.the-variants.{Length}
-use Rattle.spec.specs.Answers.{toldWritten, DecidedLoops}
+use Rattle.spec.specs.declared.Slots.{Slots}
+use Rattle.spec.specs.declared.Slots.the-variants.{Numbered}
+use Rattle.spec.specs.Answers.{toldWritten, toldSlots, DecidedLoops}
 use Rattle.spec.specs.Calls.{planLimit, areaLine, normalFormLines, normalFormAnswer, coreForm, coreAnswer}
+use Rattle.spec.specs.Slots.{slotsLines, slotCounts, slotsAnswer}
 use Rattle.spec_laws.specs.CallLaws.{answer-given, few-commands}
 use Rattle.spec_laws.specs.LoopLaws.{lead-in-same}
 use Rattle.spec.specs.Loops.{leadInRoom, leadInLimit, Looped, refuses, apart, joined}
@@ -36,6 +39,12 @@ module _ (c v area : List ℕ) {r : Written} (l : ℕ) where
 
   pub core-short : toldWritten r ≡ coreAnswer c v area → r ≡ Length l → l ≤ length v
   core-short = written-length (firstLine (normalFormLines c v area)) v (coreForm c v) (core-form-length c v) l
+
+pub slots-short : (c v area numbers : List ℕ) {r : Slots} (l n : ℕ) → toldSlots r ≡ slotsAnswer c v area numbers
+    → r ≡ Numbered l n → l ≤ length v
+slots-short c v area numbers l n e k =
+    let s = answer-given (firstLine (slotsLines c v area numbers)) (slotCounts c v) _ (sym e ∙ ap toldSlots k) .1 in
+    omega (arith, normal-length c v, ap (λ x. x .length) s)
 
 -- the room of a lead-in between plans that no line refuses
 pub room-limit : (c v w : List ℕ) → firstLine (programLines c v w) ≡ none → leadInRoom c v w ≤ leadInLimit

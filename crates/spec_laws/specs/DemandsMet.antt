@@ -1,6 +1,6 @@
 -- For the reader, and cited by no other file: the demands are met, each is a value of its statement in the crate spec.
 use Prim.Native.Nat.{ℕ, _+_, _*_, _≤_, _<_}
-use mathlib.Core.Path.{_≡_, refl, sym, _∙_, ap}
+use mathlib.Core.Path.{_≡_, refl, sym, _∙_, ap, subst}
 use mathlib.Core.Bool.{Bool, true, false}
 use mathlib.Core.List.{List, [], _∷_, _++_}
 use mathlib.Core.Option.{Option, none, some}
@@ -9,7 +9,7 @@ use native.Mathlib.Omega.{arith}
 use lib.ListN.{length, take, drop, getD}
 use lib.Dec.{ltb}
 use lib.Bits.{bitAnd}
-use lib.Seq.{take-at, take-append-seam, drop-append-seam}
+use lib.Seq.{take-at, drop-at, take-append-seam, drop-append-seam}
 use Rattle.theory_words.specs.Alike.{alike?}
 use Rattle.theory_words.specs.AlikeLaws.{alike-exact}
 use Rattle.spec.specs.Table.{Line, line, Answer, refused, given, firstLine, orElse, orKept, NoneHolds, FirstHolds}
@@ -29,14 +29,20 @@ use Rattle.spec_laws.specs.SearchLaws.{given-not}
 use Rattle.spec.specs.Step.{Equal}
 use Rattle.spec.specs.Demands.{Demand1, Demand2, Demand3, Shortest, Exact, IsCore}
 use Rattle.spec.specs.Demands.{CatalogueDemand, PairsDemand, CoreDemand, RoundsDemand, FaultDemand, ProgramDemand}
-use Rattle.spec.specs.Demands.{SetTestDemand, RetiredDemand, PlansDemand}
+use Rattle.spec.specs.Demands.{SlotsDemand, PrecedenceDemand, SetTestDemand, RetiredDemand, PlansDemand}
 use Rattle.spec.specs.Calls.{planLimit, areaLine, areaAfter, normalFormLines, normalFormAnswer, normalFormArea}
 use Rattle.spec.specs.Calls.{catalogueAnswer, catalogueTable, coreForm, coreAnswer, coreArea, equalLines, equalAnswer}
 use Rattle.spec.specs.Calls.{pairedLines, pairedCounts, pairedAnswer, pairedArea, pairedNumbers}
-use Rattle.spec.specs.Answers.{yesNo, FormCounts, DecidedLoops, CheckedLeadIn}
+use Rattle.spec.specs.Answers.{yesNo, FormCounts, SlotCounts, DecidedLoops, CheckedLeadIn}
 use Rattle.spec.specs.Pairs.{reading, pairNumbers, Accounts}
 use Rattle.spec_laws.specs.ReadingLaws.{numbers-length, accounts}
 use Rattle.spec_laws.specs.PairedLaws.{form-few, form-passes, paired-refused, paired-none}
+use Rattle.spec.specs.Slots.{slots, Numbered, slotsLines, slotCounts, slotsAnswer, slotsArea, slotsNumbers}
+use Rattle.spec_laws.specs.SlotsLaws.{slots-length, numbered, slots-refused, slots-none}
+use Rattle.spec.specs.Precedence.{StaysBefore, allLead, precedenceLines, precedenceAnswer}
+use Rattle.spec_laws.specs.PrecedenceLaws.{chain-exact, backwards, stays-smaller}
+use Rattle.spec_laws.specs.PlacesLaws.{faulty-exact, all-stay, fault-passes}
+use Rattle.spec_laws.specs.PlacesLaws.{precedence-refused, precedence-passes}
 use Rattle.spec.specs.Loops.{leadInRoom, loopsLines, Looped, refuses, apart, joined, LeadIn}
 use Rattle.spec.specs.Loops.{checkLines, checkResult, checkAnswer}
 use Rattle.spec.specs.Retired.{unsettledLines}
@@ -45,9 +51,9 @@ use Rattle.spec.specs.Bits.{Within, Gathered}
 use Rattle.spec_laws.specs.BitsLaws.{gathered-once, gathered-fits, share-none}
 use Rattle.spec_laws.specs.GatherLaws.{gathered-some}
 use Rattle.spec_laws.specs.RoundsLaws.{part-settles, part-number, part-few, rounds-told, rounds-few}
-use Rattle.spec.specs.Fault.{faultLines}
+use Rattle.spec.specs.Fault.{faultLines, faultAnswer}
 use Rattle.spec_laws.specs.FaultLaws.{catalogue-explained, form-explained, equal-explained, loops-explained}
-use Rattle.spec_laws.specs.FaultLaws.{check-explained, fault-numbered}
+use Rattle.spec_laws.specs.FaultLaws.{slots-explained, check-explained, fault-numbered}
 use Rattle.spec_laws.specs.VerdictLaws.{verdict-printed, verdict-cores}
 use Rattle.spec_laws.specs.LoopLaws.{loops-pass, none-joins, check-pass}
 use Rattle.spec.specs.Join.{Joins}
@@ -119,6 +125,14 @@ form-given : (c v area : List ℕ) → firstLine (normalFormLines c v area) ≡ 
     → (commands c ≤ 127) × Passing (commands c) v
 form-given c v area e = (omega (arith, form-few c v area e), form-passes c v area e .1)
 
+-- numbers written to the start of an area, and past them the area as it was
+written : (ns area : List ℕ) {l : ℕ} → length ns ≡ l
+    → (take l (ns ++ drop (length ns) area) ≡ ns) × (drop l (ns ++ drop (length ns) area) ≡ drop l area)
+written ns area {l} e = (
+  take-at ns (drop (length ns) area) l e,
+  drop-at ns (drop (length ns) area) l e ∙ ap (λ n. drop n area) e,
+)
+
 -- the first L bytes of an area are what was written there
 written-first : (ls : List (Option Line)) (z area : List ℕ) (l : ℕ) (P : List ℕ → Type 0)
     → orElse (firstLine ls) (length z) ≡ given l → (firstLine ls ≡ none → P z)
@@ -126,7 +140,7 @@ written-first : (ls : List (Option Line)) (z area : List ℕ) (l : ℕ) (P : Lis
 written-first ls z area l P e f =
     let (none-refuses, long) = answer-given (firstLine ls) (length z) l e in
     let t : take l (areaAfter (firstLine ls) z area) ≡ z =
-    rw none-refuses (take-at z (drop (length z) area) l long) in
+    rw none-refuses (written z area long .0) in
     rw t (long, f none-refuses)
 
 normal-form-demand : (c v area : List ℕ) (l : ℕ) → normalFormAnswer c v area ≡ given l
@@ -153,20 +167,63 @@ paired-numbers : (c v area pairs : List ℕ) (k : FormCounts) → pairedAnswer c
 paired-numbers c v area pairs k e =
     let (none-refuses, same) = answer-given (firstLine (pairedLines c v area pairs)) (pairedCounts c v) k e in
     let n = numbers-length (reading c v .pairs) ∙ ap (λ x. 2 * x .pairs) same in
-    let rest = drop (length (pairNumbers c v)) pairs in
-    let t : take (2 * k .pairs) (pairNumbers c v ++ rest) ≡ pairNumbers c v =
-    take-at (pairNumbers c v) rest (2 * k .pairs) n in
+    let (t, d) = written (pairNumbers c v) pairs n in
     let passing = form-passes c v area (paired-none c v area pairs none-refuses) .1 in
-    rw none-refuses (
-      ap length t ∙ n,
-      t,
-      ap (λ m. drop m (pairNumbers c v ++ rest)) (sym n) ∙ drop-append-seam (pairNumbers c v) rest
-          ∙ ap (λ m. drop m pairs) n,
-      accounts c v passing,
-    )
+    rw none-refuses (ap length t ∙ n, t, d, accounts c v passing)
 
 pub demand-pairs : PairsDemand
 demand-pairs = record { refused-alike = paired-refused; form-alike = paired-form; pairs = paired-numbers }
+
+-- Slots
+
+slots-form : (c v area numbers : List ℕ) (k : SlotCounts) → slotsAnswer c v area numbers ≡ given k
+    → (normalFormAnswer c v area ≡ given (k .length)) × (slotsArea c v area numbers ≡ normalFormArea c v area)
+slots-form c v area numbers k e =
+    let (none-refuses, same) = answer-given (firstLine (slotsLines c v area numbers)) (slotCounts c v) k e in
+    rw (none-refuses, slots-none c v area numbers none-refuses) (ap (λ x. given (x .length)) same, refl)
+
+slots-numbers : (c v area numbers : List ℕ) (k : SlotCounts) → slotsAnswer c v area numbers ≡ given k
+    → (length (take (k .length) (slotsNumbers c v area numbers)) ≡ k .length)
+    × Numbered c (take (k .length) (slotsArea c v area numbers)) (take (k .length) (slotsNumbers c v area numbers))
+    (k .in-use)
+    × (drop (k .length) (slotsNumbers c v area numbers) ≡ drop (k .length) numbers)
+slots-numbers c v area numbers k e =
+    let (none-refuses, same) = answer-given (firstLine (slotsLines c v area numbers)) (slotCounts c v) k e in
+    let z = normalForm c v in
+    let l = ap (λ x. x .length) same in
+    let n = slots-length c z ∙ l in
+    let (t, d) = written (slots c z) numbers n in
+    rw (none-refuses, written z area l .0, t)
+    (n, subst (Numbered c z (slots c z)) (ap (λ x. x .in-use) same) (numbered c z), d)
+
+pub demand-slots : SlotsDemand
+demand-slots = record { refused-alike = slots-refused; form-alike = slots-form; slots = slots-numbers }
+
+-- Precedence
+
+precedence-form : (c v : List ℕ) → faultAnswer c v [] [] ≡ none → Shortest c v (normalForm c v)
+precedence-form c v e = let (few, passing) = fault-passes c v e in normal-shortest c v (omega arith) passing
+
+precedence-demand : (c v ns : List ℕ) (b : Bool) → precedenceAnswer c v ns ≡ given b
+    → (b ≡ true) ↔ ((p : ℕ) → 2 * p < length ns
+    → StaysBefore c (normalForm c v) (getD ns (2 * p) 0) (getD ns (2 * p + 1) 0))
+precedence-demand c v ns b e =
+    let z = normalForm c v in
+    let (none-refuses, same) = answer-given (firstLine (precedenceLines c v ns)) (allLead c z ns) b e in
+    let stay = all-stay c z ns (precedence-passes c v ns none-refuses) in
+    (λ t. stay .0 (same ∙ t), λ f. sym same ∙ stay .1 f)
+
+pub demand-precedence : PrecedenceDemand
+demand-precedence =
+    record {
+      refused-alike = precedence-refused;
+      faulty = faulty-exact;
+      form = precedence-form;
+      precedence = precedence-demand;
+      chain = chain-exact;
+      backwards = backwards;
+      smaller = λ c z ns i j. stays-smaller c z i j ns;
+    }
 
 -- The core call
 
@@ -312,6 +369,7 @@ demand-fault =
       among = fault-numbered;
       catalogue = catalogue-explained;
       form = form-explained;
+      slots = slots-explained;
       equal = equal-explained;
       loops = loops-explained;
       check = check-explained;

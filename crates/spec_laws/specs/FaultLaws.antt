@@ -15,6 +15,7 @@ use Rattle.spec_laws.specs.LineLaws.{UpTo, Numbered, plan-up-to, two-up-
 use Rattle.spec.specs.Catalogue.{commands, catalogueLines}
 use Rattle.spec.specs.Plan.{planLines}
 use Rattle.spec.specs.Calls.{planLimit, areaLine, normalFormLines, equalLines}
+use Rattle.spec.specs.Slots.{slotsLines}
 use Rattle.spec.specs.Loops.{leadInRoom, leadInLimit, loopsLines, checkLines}
 use Rattle.spec.specs.Fault.{faultLines, faultAnswer}
 use Rattle.spec.specs.Demands.{Explains}
@@ -72,6 +73,13 @@ module _ (c : List ℕ) where
   form-explained v area =
       explained c v [] [] (one v) empty2 (areaLine 0 (length v) area ∷ []) refl refl
       (area-nines 0 (length v) area [] no-nines)
+
+  pub slots-explained : (v area numbers : List ℕ) → Explains c v [] [] (slotsLines c v area numbers)
+  unfolding firstOf
+  slots-explained v area numbers =
+      let later = areaLine 1 (length v) numbers ∷ [] in
+      explained c v [] [] (one v) empty2 (areaLine 0 (length v) area ∷ later) refl refl
+      (area-nines 0 (length v) area later (area-nines 1 (length v) numbers [] no-nines))
 
   pub equal-explained : (v w : List ℕ) → Explains c v w [] (equalLines c v w)
   unfolding firstOf

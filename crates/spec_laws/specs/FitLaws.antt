@@ -17,11 +17,15 @@ use Rattle.spec.specs.declared.NormalForm.{NormalForm}
 use Rattle.spec.specs.declared.NormalForm.the-variants.{Written}
 use Rattle.spec.specs.declared.Loops.{Loops}
 use Rattle.spec.specs.declared.Loops.the-variants.{Joined}
-use Rattle.spec.specs.Answers.{toldWritten, toldNormalForm, toldLoops, DecidedLoops, CheckedLeadIn}
+use Rattle.spec.specs.declared.Slots.{Slots}
+use Rattle.spec.specs.declared.Slots.the-variants.{Numbered}
+use Rattle.spec.specs.Answers.{toldWritten, toldNormalForm, toldSlots, toldLoops, DecidedLoops, CheckedLeadIn}
 use Rattle.spec.specs.Pairs.{reading, pairNumbers}
 use Rattle.spec_laws.specs.ReadingLaws.{numbers-length}
 use Rattle.spec.specs.Calls.{areaAfter, normalFormLines, coreForm, coreAnswer, coreArea}
 use Rattle.spec.specs.Calls.{pairedLines, pairedCounts, pairedAnswer, pairedArea, pairedNumbers}
+use Rattle.spec.specs.Slots.{slots, slotCounts, slotsLines, slotsAnswer, slotsArea, slotsNumbers}
+use Rattle.spec_laws.specs.SlotsLaws.{slots-length}
 use Rattle.spec.specs.Loops.{Looped, refuses, apart, joined}
 use Rattle.spec.specs.Loops.{checkLines, checkResult, checkAnswer, checkArea0, checkArea1}
 
@@ -57,6 +61,21 @@ module _ (c v area pairs : List ℕ) {after numbers : List ℕ} {r : NormalForm}
           numbers-length (reading c v .pairs),
           after-fits o (pairNumbers c v) pairs numbers n b,
         ),
+      )
+
+-- the normal form in its area, and as many slots in theirs
+module _ (c v area numbers : List ℕ) {after slotsAfter : List ℕ} {r : Slots} {l n : ℕ} where
+  pub slots-fits : (toldSlots r ≡ slotsAnswer c v area numbers)
+      × ((after ≡ slotsArea c v area numbers) × (slotsAfter ≡ slotsNumbers c v area numbers))
+      → r ≡ Numbered l n → (l ≤ length after) × (l ≤ length slotsAfter)
+  slots-fits (e, (a, b)) k =
+      let o = firstLine (slotsLines c v area numbers) in
+      let z = normalForm c v in
+      let (m, same) = answer-given o (slotCounts c v) (record { length = l; in-use = n })
+      (sym e ∙ ap toldSlots k) in
+      let q = ap (λ x. x .length) same in (
+        omega (arith, q, after-fits o z area after m a),
+        omega (arith, q, slots-length c z, after-fits o (slots c z) numbers slotsAfter m b),
       )
 
 module _ (c v area : List ℕ) {after : List ℕ} {r : written.Written} {l : ℕ} where

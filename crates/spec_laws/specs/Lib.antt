@@ -15,10 +15,16 @@ pub mod NormalFormLaws
 pub mod SwapLaws
 pub mod PartnerLaws
 pub mod ReadingLaws
+pub mod ArrangementLaws
+pub mod PrecedenceLaws
 pub mod JoinLaws
 pub mod CoreFormLaws
 pub mod CallLaws
+pub mod PlacesLaws
 pub mod PairedLaws
+pub mod DifferentLaws
+pub mod FewestLaws
+pub mod SlotsLaws
 pub mod LoopLaws
 pub mod RetiredLaws
 pub mod SettlesLaws

@@ -10,8 +10,8 @@ use lib.ListN.{length, getD}
 use lib.Dec.{leb, ltb, eqb}
 use borrow.Author.Tests.{leb-true, le-leb, lt-ltb, le-ltb, eq-eqb, ne-eqb, ltb-false, not-false}
 use Rattle.theory_words.specs.BoolLaws.{true-same}
-use Rattle.spec.specs.Table.{firstOf, lineAt, line, holds, Answer, refused, given, firstLine, orElse}
-use Rattle.spec_laws.specs.SearchLaws.{search-none}
+use Rattle.spec.specs.Table.{lineAt, line, holds, Answer, refused, given, firstLine, orElse}
+use Rattle.spec_laws.specs.SearchLaws.{search-none, search-all}
 use Rattle.spec.specs.Plan.{isCommand, passes, firstBad, planLines, Passing}
 use Rattle.spec.specs.AlphabetLaws.{Side, under, amid, over, side, within-in, within-under, within-over}
 
@@ -56,12 +56,6 @@ module _ (p limit n : ℕ) (v : List ℕ) where
   answer-pass h f e = rw (le-ltb limit (length v) h, ← f, e)
 
 -- what a check that passes tells of the plan
-
-search-all : (p : ℕ → Bool) (n s : ℕ) → ((i : ℕ) → s ≤ i → i < s + n → p i ≡ false) → firstOf p n s ≡ none
-unfolding firstOf
-search-all p zero s f = refl
-search-all p (suc n) s f =
-    rw (f s (omega arith) (omega arith)) (search-all p n (suc s) (λ i l h. f i (omega arith) (omega arith)))
 
 pub passing-append : (n : ℕ) (u v : List ℕ) → Passing n u → Passing n v → Passing n (u ++ v)
 passing-append n [] v h k = k

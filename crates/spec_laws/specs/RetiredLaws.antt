@@ -17,7 +17,7 @@ use Rattle.theory_conjugacy.specs.RoundLaws.{part-quiet}
 use Rattle.spec.specs.declared.Reason.{Reason}
 use Rattle.spec.specs.declared.Reason.the-variants.{CatalogueSize, CommandCount, Index, RecordCommand, EndlessChain}
 use Rattle.spec.specs.declared.Reason.the-variants.{OwnChain, PlanSize, PlanByte, AreaSize, Framing, PairsSize}
-use Rattle.spec.specs.declared.Reason.the-variants.{Text, Nesting, WrittenSize}
+use Rattle.spec.specs.declared.Reason.the-variants.{Text, Nesting, WrittenSize, Places}
 use Rattle.spec.specs.Table.{Line, line, numberOf, firstLine, NoneHolds, FirstHolds}
 use Rattle.spec_laws.specs.TableLaws.{left-out, none-left, none-holds, first-holds}
 use Rattle.spec_laws.specs.LineLaws.{UpTo, two-up-to, first-up-to}
@@ -94,3 +94,4 @@ number-unused PairsSize e = omega arith
 number-unused Text e = omega arith
 number-unused Nesting e = omega arith
 number-unused WrittenSize e = omega arith
+number-unused Places e = omega arith

@@ -5,7 +5,7 @@ use mathlib.Core.List.{List, [], _∷_, _++_}
 use mathlib.Core.Option.{Option, none, some}
 use mathlib.Core.Logic.{_↔_}
 use native.Mathlib.Omega.{arith}
-use Rattle.spec.specs.Table.{Line, firstLine, lineAt, NoneHolds, FirstHolds, now, later}
+use Rattle.spec.specs.Table.{Line, line, firstLine, lineAt, NoneHolds, FirstHolds, now, later}
 
 pub some-same : {A : Type 0} {a b : A} → some a ≡ some b → a ≡ b
 some-same e = cc
@@ -17,6 +17,12 @@ none-some e = let z : _≡_ {A = ℕ} 0 1 = cc in omega arith
 pub none-at : (n p : ℕ) (f : ℕ → ℕ) (o : Option ℕ) → lineAt n p f o ≡ none → o ≡ none
 none-at n p f none e = refl
 none-at n p f (some i) e = absurd (none-some (sym e))
+
+-- and where something was
+pub some-at : (n p : ℕ) (f : ℕ → ℕ) (o : Option ℕ) {l : Line} → lineAt n p f o ≡ some l
+    → (i : ℕ) × (o ≡ some i) × (l ≡ line n p (f i))
+some-at n p f none e = absurd (none-some e)
+some-at n p f (some i) e = (i, refl, sym (some-same e))
 
 -- the first line that holds in two lists, one after the other
 pub first-early : (xs ys : List (Option Line)) {l : Line} → firstLine xs ≡ some l → firstLine (xs ++ ys) ≡ some l
