@@ -1,3 +1,4 @@
 pub mod Sets
 pub mod SetsLaws
 pub mod TestLaws
+pub mod MarksLaws

@@ -1,17 +1,16 @@
 -- Laws of the scan that splits a word: where a letter goes, bytes written over an array, and the loop's invariant.
-use Prim.Native.Nat.{ℕ, zero, suc, _+_, _-_, _<_, _≤_}
+use Prim.Native.Nat.{ℕ, _+_, _-_, _<_, _≤_}
 use native.Mathlib.Omega.{arith}
 use native.Mathlib.Numerals.{add-one}
 use mathlib.Core.Path.{_≡_, refl}
-use mathlib.Core.Bool.{Bool, true, false, _||_, or-true}
+use mathlib.Core.Bool.{true, false, or-true}
 use mathlib.Core.Logic.{_⊎_, inl, inr}
 use mathlib.Core.List.{List, [], _∷_, _++_, append-nil}
 use lib.ListN.{length, getD, drop, drop-of-length-le}
 use lib.Seq.{drop-cons, append-snoc}
 use lib.Dec.{eqb}
 use borrow.Author.Tests.{eq-eqb, ne-eqb}
-use Rattle.theory_words.specs.All.{All}
-use Rattle.theory_words.specs.Normal.{meets}
+use Rattle.theory_words.specs.All.{all-at}
 use Rattle.input_chains.specs.Conflicts.{Conflicts}
 use Rattle.spec.specs.Byte.{commandOf}
 use Rattle.input_plan.specs.Lettered.{Lettered}
@@ -24,8 +23,7 @@ use Rattle.array_sets.specs.Sets.{Clear, Meeting, empty}
 use Rattle.array_sets.specs.SetsLaws.{empty-meeting}
 use Rattle.array_row.specs.Area.{StartsWith}
 use Rattle.array_row.specs.RowLaws.{appended-start, appended-length, appended-again}
-use Rattle.conjugacy_settling.specs.MarksLaws.{Marks, marks-none, marks-add, conflicts-table, clear-meets}
-use Rattle.conjugacy_settling.specs.MarksLaws.{meets-clear}
+use Rattle.array_sets.specs.MarksLaws.{Marks, marks-none, marks-add, conflicts-table, clear-meets, unclear-meets}
 use Rattle.conjugacy_settling.specs.Halving.{Place, lineOf, Placed, below, above, Splittable, Halved}
 
 -- where a letter goes
@@ -41,11 +39,8 @@ module _ {c : List ℕ} {conflicts : List (List ℕ)} (table : Conflicts c confl
       → hit (alphabet c) apex R b ≡ true
   unfolding hit
   hit-above (inl e) = rw (eq-eqb (commandOf b) apex e) refl
-  hit-above (inr n) = go (meets (alphabet c) (commandOf b) R) refl
-    where
-      go : (t : Bool) → meets (alphabet c) (commandOf b) R ≡ t → (eqb (commandOf b) apex || t) ≡ true
-      go true e = or-true (eqb (commandOf b) apex)
-      go false e = absurd (n (meets-clear table (commandOf b) (range .0) (range .1) m e))
+  hit-above (inr n) =
+      rw (unclear-meets table (commandOf b) (range .0) (range .1) m n) (or-true (eqb (commandOf b) apex))
 
 -- the loop
 
@@ -69,14 +64,9 @@ pub record Halving (word : List ℕ) (apex : ℕ) (conflicts : List (List ℕ)) 
   pub half : (c : List ℕ) → Splittable c word conflicts low₀ high₀
       → Halfway c apex word low₀ high₀ raised low high ends i
 
-lettered-at : (w : List ℕ) → All Lettered w → (i : ℕ) → i < length w → Lettered (getD w i 0)
-lettered-at [] h i l = absurd (omega arith)
-lettered-at (b ∷ w) h zero l = h .0
-lettered-at (b ∷ w) h (suc i) l = lettered-at w (h .1) i (omega arith)
-
 pub splittable-at : {c word : List ℕ} {conflicts : List (List ℕ)} {low high : List ℕ}
     → Splittable c word conflicts low high → (i : ℕ) → i < length word → Lettered (getD word i 0)
-splittable-at {word = word} g i l = lettered-at word (g .letters) i l
+splittable-at {word = word} g i l = all-at Lettered word i 0 (g .letters) l
 
 module _ {word : List ℕ} {apex : ℕ} {conflicts : List (List ℕ)} {low₀ high₀ : List ℕ} where
   pub halving-start : {raised : List ℕ} → raised ≡ empty

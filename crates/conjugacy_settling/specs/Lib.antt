@@ -1,4 +1,3 @@
-pub mod MarksLaws
 pub mod Halving
 pub mod HalvingLaws
 pub mod Settling

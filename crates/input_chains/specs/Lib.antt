@@ -1,4 +1,5 @@
 pub mod Conflicts
+pub mod ConflictsLaws
 pub mod Marking
 pub mod MarkingLaws
 pub mod MembersLaws

@@ -10,12 +10,13 @@ use Rattle.theory_words.specs.All.{All, all-map}
 use Rattle.theory_words.specs.Normal.{meets}
 use Rattle.spec.specs.Conflict.{conflict}
 use Rattle.input_chains.specs.Conflicts.{Conflicts}
+use Rattle.input_chains.specs.ConflictsLaws.{line-tells}
 use Rattle.spec.specs.Answers.{yesNo}
 use Rattle.input_chains.specs.MarkingLaws.{yes-low}
 use Rattle.spec.specs.AlphabetLaws.{conflict-refl, conflict-sym}
 use Rattle.spec.specs.Letters.{alphabet}
 use Rattle.array_sets.specs.Sets.{In, Clear, Table, Added, empty}
 use Rattle.array_sets.specs.SetsLaws.{none-in}
 
 -- a is a command in the set
 abbrev Has : List ℕ → ℕ → Type 0
@@ -59,11 +60,6 @@ module _ {c : List ℕ} {rows : List (List ℕ)} (table : Conflicts c rows) wher
   }
 
   module _ (k : ℕ) (low : 1 ≤ k) (high : k ≤ 24) where
-    line-at : (j : ℕ) → j < 24 → getD (getD rows (k - 1) []) j 0 ≡ yesNo (conflict c k (j + 1))
-    line-at j l =
-        let e : k - 1 + 1 ≡ k = omega arith in
-        table .tells (k - 1) j (omega arith) l ∙ ap (λ (i : ℕ). yesNo (conflict c i (j + 1))) e
-
     pub clear-meets : {s R : List ℕ} → Marks s R → Clear (getD rows (k - 1) []) s → meets (alphabet c) k R ≡ false
     unfolding meets
     clear-meets {s} {R} m f = go R (m .held)
@@ -72,7 +68,7 @@ module _ {c : List ℕ} {rows : List (List ℕ)} (table : Conflicts c rows) wher
             → meets (alphabet c) k R ≡ false → (t || meets (alphabet c) k R) ≡ false
         step j R true e l h o ih =
             let i : j - 1 + 1 ≡ j = omega arith in
-            let b : getD (getD rows (k - 1) []) (j - 1) 0 ≡ 1 = line-at (j - 1) (omega arith) ∙ rw (i, e) refl in
+            let b : getD (getD rows (k - 1) []) (j - 1) 0 ≡ 1 = line-tells table k low high (j - 1) (omega arith) ∙ rw (i, e) refl in
             absurd (f (j - 1) (omega arith) b o)
         step j R false e l h o ih = ih
 
@@ -89,6 +85,13 @@ module _ {c : List ℕ} {rows : List (List ℕ)} (table : Conflicts c rows) wher
         go true e = refl
         go false e = e
 
-    pub meets-clear : {s R : List ℕ} → Marks s R → meets (alphabet c) k R ≡ false → Clear (getD rows (k - 1) []) s
+    meets-clear : {s R : List ℕ} → Marks s R → meets (alphabet c) k R ≡ false → Clear (getD rows (k - 1) []) s
     meets-clear m e j l a b =
-        true≢false (sym (meets-held (m .only j l b) (yes-one (conflict c k (j + 1)) (sym (line-at j l) ∙ a))) ∙ e)
+        true≢false (sym (meets-held (m .only j l b) (yes-one (conflict c k (j + 1)) (sym (line-tells table k low high j l) ∙ a))) ∙ e)
+
+    pub unclear-meets : {s R : List ℕ} → Marks s R → (Clear (getD rows (k - 1) []) s → ⊥) → meets (alphabet c) k R ≡ true
+    unclear-meets {R = R} m n = go (meets (alphabet c) k R) refl
+      where
+        go : (t : Bool) → meets (alphabet c) k R ≡ t → t ≡ true
+        go true e = refl
+        go false e = absurd (n (meets-clear m e))
