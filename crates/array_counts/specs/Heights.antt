@@ -1,5 +1,5 @@
 -- 24 heights changed by a line of 24 numbers, index by index.
-use Prim.Native.Nat.{ℕ, _-_, _<_}
+use Prim.Native.Nat.{ℕ, _-_, _*_, _<_, max}
 use mathlib.Core.Path.{_≡_}
 use mathlib.Core.List.{List}
 use lib.Bits.{bitAnd}
@@ -19,3 +19,7 @@ pub record Changed (f : ℕ → ℕ → ℕ) (line first last : List ℕ) : Type
 -- f where n is 0, and 0 where n is 1
 unfoldable pub without : ℕ → ℕ → ℕ
 without f n = bitAnd f (1 - n)
+
+-- h where n is 0, and at least `least` where n is 1
+abbrev pub atLeast : ℕ → ℕ → ℕ → ℕ
+atLeast least h n = max h (n * least)

@@ -1,5 +1,5 @@
 -- Laws of the loop that changes heights: the indices below i are changed, the others are as they were.
-use Prim.Native.Nat.{ℕ, _+_, _≤_, _<_}
+use Prim.Native.Nat.{ℕ, zero, suc, _+_, _*_, _≤_, _<_}
 use native.Mathlib.Omega.{arith}
 use mathlib.Core.Path.{_≡_, refl, sym, _∙_, ap, subst}
 use mathlib.Core.List.{List}
@@ -45,3 +45,9 @@ module _ (f : ℕ → ℕ → ℕ) where
 
   pub changing-end : {line first now : List ℕ} {i : ℕ} → 24 ≤ i → Changing line first now i → Changed f line first now
   changing-end l c = record { kept = c .kept; each = λ i k. c .below i (omega arith) }
+
+-- a number taken once at most
+pub times-low : (n m : ℕ) → n ≤ 1 → n * m ≤ m
+times-low zero m h = omega arith
+times-low (suc zero) m h = omega arith
+times-low (suc (suc n)) m h = absurd (omega arith)

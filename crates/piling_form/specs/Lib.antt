@@ -1,2 +1,3 @@
 pub mod Coring
 pub mod CoringLaws
+pub mod FormLaws

@@ -7,6 +7,7 @@ ghost use mathlib.Core.List.{List};
 ghost use lib.ListN.{length};
 ghost use Rattle.array_row.specs.Area.{StartsWith};
 ghost use Rattle.input_checks.specs.Passed.{Passed};
+ghost use Rattle.spec.specs.Letters.{normalForm};
 ghost use Rattle.piling_pairs.specs.Pairing.{PairsOf};
 ghost use Rattle.piling_core.specs.Peeling.{Peelable};
 ghost use Rattle.piling_form.specs.Coring.{form, Room, Remains, CoreOf, FormOf};
@@ -108,4 +109,15 @@ pub fn form(
 {
     let mut lead = blank_lead();
     form_of(plan, conflicts, area, &mut lead, pairs, cored)
+}
+
+// The normal form of plan for a caller who does not hand out pairs, and its length.
+pub fn form_alone(plan: &[u8], conflicts: &[[u16; 24]; 24], area: &mut [u8]) -> usize
+    requires { ⌜ ((c : List ℕ) × Passed c (now conflicts) (now plan) × (length (now plan) ≤ length (now area))) ⌝ }
+    ensures { λ r. ⌜ ((c : List ℕ) → Passed c (now (conflicts .entry)) (now (plan .entry))
+        → StartsWith (normalForm c (now (plan .entry))) (now (area .entry)) (now (area .exit)) r) ⌝ }
+{
+    let mut pairs = piling_pairs::blank_places();
+    let formed = form(plan, conflicts, area, &mut pairs, false);
+    formed.form
 }
