@@ -27,7 +27,8 @@
  * threads at once. Areas must not overlap anything else that is handed over. Bytes of an area past those written keep
  * their contents, and a refused call changes no byte of any area.
  *
- * Each byte string or area is a pointer and a length. An empty one may be a null pointer with length 0.
+ * Each byte string or area is a pointer and a length, and so is each list or area of 16-bit numbers, with the number of
+ * them as its length. An empty one may be a null pointer with length 0.
  *
  * Platform: Linux on x86-64. The archive needs nothing but the C library's memory functions.
  */
@@ -41,7 +42,7 @@
 extern "C" {
 #endif
 
-#define BUSPLAN_VERSION "2.0.0"
+#define BUSPLAN_VERSION "2.1.0"
 
 #define BUSPLAN_MAX_COMMANDS 24
 #define BUSPLAN_MAX_PLAN 1024
@@ -49,13 +50,15 @@ extern "C" {
 #define BUSPLAN_MAX_CATALOGUE 536 /* 2 + 24 + 2 * 255 */
 #define BUSPLAN_MAX_NESTING 8
 
-/* The room that each area must have at least, in bytes, from N and the byte counts of the plans, and the most that any
- * call asks for: an area of that size is never refused. */
+/* The room that each area must have at least, in bytes, and for slots in 16-bit numbers, from N and the byte counts of
+ * the plans, and the most that any call asks for: an area of that size is never refused. */
 #define BUSPLAN_FORM_ROOM(plan_size) ((size_t)(plan_size))
+#define BUSPLAN_SLOTS_ROOM(plan_size) ((size_t)(plan_size))
 #define BUSPLAN_LOOPS_ROOM(commands, v_size, w_size) ((size_t)(commands) * ((size_t)(v_size) + (size_t)(w_size)))
 #define BUSPLAN_CHECK_ROOM0(v_size, u_size) ((size_t)(v_size) + (size_t)(u_size))
 #define BUSPLAN_CHECK_ROOM1(u_size, w_size) ((size_t)(u_size) + (size_t)(w_size))
 #define BUSPLAN_MAX_FORM_ROOM 1024      /* BUSPLAN_MAX_PLAN */
+#define BUSPLAN_MAX_SLOTS_ROOM 1024     /* BUSPLAN_MAX_PLAN, in 16-bit numbers */
 #define BUSPLAN_MAX_LOOPS_ROOM 49152    /* 24 * (1024 + 1024) */
 #define BUSPLAN_MAX_CHECK_ROOM 50176    /* 1024 + 49152, for either area */
 #define BUSPLAN_MAX_WRITE_OUT_ROOM 1024 /* BUSPLAN_MAX_PLAN */
@@ -64,6 +67,9 @@ extern "C" {
  * proved. A thread has needs of its own beside them: 16 kB more are enough with glibc. */
 #define BUSPLAN_NORMAL_FORM_STACK 36000
 #define BUSPLAN_CORE_STACK 36000
+#define BUSPLAN_SLOTS_STACK 36000
+#define BUSPLAN_PRECEDENCE_STACK 36000
+#define BUSPLAN_PRECEDENCE_FAULT_STACK 36000
 #define BUSPLAN_EQUAL_STACK 36000
 #define BUSPLAN_LOOPS_STACK 300000
 #define BUSPLAN_LEAD_IN_CHECK_STACK 300000
@@ -73,10 +79,10 @@ extern "C" {
 #define BUSPLAN_STACK 300000 /* any of them */
 
 /* Why a call is refused: the first of these that holds, in this order, but 7 and 8 plan by plan: those of the first
- * plan come before those of the second. For a text the order is 1 to 6, 13, 14, 8, 15, 9. A call returns minus the
- * number; busplan_fault tells the plan and the place, and busplan_text_fault those of a text. No function here returns
- * 12: it is of the normal form call from Rattle, which also tells the places of the letters that cancelled with each
- * other. */
+ * plan come before those of the second. For a text the order is 1 to 6, 13, 14, 8, 15, 9, and for a list of places it
+ * is 1 to 8, 16. A call returns minus the number; busplan_fault tells the plan and the place, busplan_text_fault those
+ * of a text, and busplan_precedence_fault those of a plan with a list of places. No function here returns 12: it is of
+ * the normal form call from Rattle, which also tells the places of the letters that cancelled with each other. */
 enum busplan_refusal {
     BUSPLAN_CATALOGUE_SIZE = 1, /* catalogue under 2 bytes, or not 2 + N + 2R */
     BUSPLAN_COMMAND_COUNT = 2,  /* N above 24 */
@@ -132,6 +138,42 @@ int64_t busplan_core(const uint8_t *catalogue, size_t catalogue_size,
                      const uint8_t *plan, size_t plan_size,
                      uint8_t *area, size_t area_size);
 
+/* The slots of a plan: its normal form, and beside each letter of it a number from 0. Letters of one slot are
+ * independent and can go out together; of two conflicting letters the earlier has the smaller slot, and letters of one
+ * command conflict. A letter's slot is 0 if no earlier letter conflicts with it, and else one more than the largest
+ * slot of the earlier letters that do. No other numbers of which this order holds are smaller at any letter, or have
+ * fewer different ones among them. area: at least BUSPLAN_FORM_ROOM(plan_size) bytes; slots: at least
+ * BUSPLAN_SLOTS_ROOM(plan_size) numbers. Returns the length of the normal form. It stands at the start of area, and as
+ * many slots at the start of slots; in_use[0] is how many different slots there are, 0 for an empty normal form. A
+ * refused call changes neither area, nor slots, nor in_use. in_use must point to a number. */
+int64_t busplan_slots(const uint8_t *catalogue, size_t catalogue_size,
+                      const uint8_t *plan, size_t plan_size,
+                      uint8_t *area, size_t area_size,
+                      uint16_t *slots, size_t slots_size,
+                      uint64_t in_use[1]);
+
+/* Whether letters of a plan's normal form stay in order. places are places in the normal form, counted from 0 and taken
+ * two by two; the list may have any length. Returns 1 for yes: the first letter of each pair stays before the second in
+ * every arrangement of the normal form that swaps of independent neighbours reach, where a letter stays the same letter
+ * wherever it is swapped to. This is so exactly if a chain of letters, each before the next and in conflict with it,
+ * leads from the first to the second. Returns 0 for no. An empty list is yes. A list that is refused (16) is refused
+ * before any no. */
+int64_t busplan_precedence(const uint8_t *catalogue, size_t catalogue_size,
+                           const uint8_t *plan, size_t plan_size,
+                           const uint16_t *places, size_t places_size);
+
+/* What is wrong with a catalogue, a plan and a list of places in its normal form: the first of refusals 1 to 8 and 16
+ * that holds, in this order, as minus its number, and then fault[0] is the plan (1, or 0 for the catalogue and for the
+ * list) and fault[1] the place, counted from 0. For 16 the place is the number of the pair, from 0: the first pair that
+ * lacks its second place, names a place past the normal form (its length or more) or names the same place twice.
+ * Returns 0 if none holds, and fault keeps its contents. fault must point to two numbers.
+ * busplan_precedence with the same catalogue, plan and list is refused for just this, and where 0 is returned it is not
+ * refused. */
+int64_t busplan_precedence_fault(const uint8_t *catalogue, size_t catalogue_size,
+                                 const uint8_t *plan, size_t plan_size,
+                                 const uint16_t *places, size_t places_size,
+                                 uint64_t fault[2]);
+
 /* Whether two plans have the same effect. Returns 1 for yes, 0 for no. */
 int64_t busplan_equal(const uint8_t *catalogue, size_t catalogue_size,
                       const uint8_t *v, size_t v_size,
@@ -161,7 +203,7 @@ int64_t busplan_lead_in_check(const uint8_t *catalogue, size_t catalogue_size,
  * catalogue) and fault[1] the place in it, counted from 0. Returns 0 if none holds, and fault keeps its contents. v and
  * w may have BUSPLAN_MAX_PLAN bytes, u BUSPLAN_MAX_LEAD_IN. fault must point to two numbers.
  * A call with the same catalogue and plans is refused for just this, and where 0 is returned it is refused for an area
- * alone (9), if at all: so this tells the place of any refusal from 1 to 8. */
+ * alone (9) or for a list of places (16), if at all: so this tells the place of any refusal from 1 to 8. */
 int64_t busplan_fault(const uint8_t *catalogue, size_t catalogue_size,
                       const uint8_t *v, size_t v_size,
                       const uint8_t *w, size_t w_size,

@@ -193,5 +193,9 @@ the number of one that is retired|BUSPLAN_FRAMING|s/BUSPLAN_FRAMING = 11/BUSPLAN
 another limit|BUSPLAN_MAX_PLAN|s/^#define BUSPLAN_MAX_PLAN .*/#define BUSPLAN_MAX_PLAN 1023/
 another nesting|BUSPLAN_MAX_NESTING|s/^#define BUSPLAN_MAX_NESTING .*/#define BUSPLAN_MAX_NESTING 9/
 a call on texts left out|busplan_text_fault|/^int64_t busplan_text_fault(/,/;/d
+a number for each byte|busplan_slots|/ busplan_slots(/,/;/s/uint16_t \*slots/uint8_t *slots/
+a list that may be changed|busplan_precedence|/ busplan_precedence(/,/;/s/const uint16_t \*places/uint16_t *places/
+room for one number more|busplan_slots|s/uint64_t in_use\[1\]/uint64_t in_use[2]/
+a refusal of places left out|BUSPLAN_PLACES|/BUSPLAN_PLACES = 16/d
 END
 echo "header: $(awk 'END { print NR }' "$out/source") names as in the Rattle source; $damages damaged copies caught"

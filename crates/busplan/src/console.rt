@@ -1,9 +1,12 @@
-// The calls as the console makes them from C, over byte slices: each a pointer and a length. The answer is a number,
-// which spec/specs/Codes.antt gives for each case of a call's answer.
+// The calls as the console makes them from C, over slices of bytes and of 16-bit numbers: each a pointer and a length.
+// The answer is a number, which spec/specs/Codes.antt gives for each case of a call's answer.
 
 ghost use mathlib.Core.Path.{_≡_};
 ghost use Rattle.spec.specs.Codes.{lengthCode, equalCode, LoopedCode, checkCode, faultCode};
+ghost use Rattle.spec.specs.Codes.{slotsCode, inUseNumber, precedenceCode};
 ghost use Rattle.spec.specs.Calls.{normalFormAnswer, normalFormArea, coreAnswer, coreArea, equalAnswer};
+ghost use Rattle.spec.specs.Slots.{slotsAnswer, slotsArea, slotsNumbers};
+ghost use Rattle.spec.specs.Precedence.{precedenceAnswer, precedenceFault};
 ghost use Rattle.spec.specs.Loops.{checkAnswer, checkArea0, checkArea1};
 ghost use Rattle.spec.specs.Fault.{faultAnswer, faultNumbers};
 ghost use Rattle.spec.specs.WriteOut.{writeOutAnswer, writeOutArea, textFault};
@@ -28,6 +31,55 @@ pub extern "C" fn busplan_core(catalogue: &[u8], plan: &[u8], area: &mut [u8]) -
         ≡ coreArea (now (catalogue .entry)) (now (plan .entry)) (now (area .entry)) ⌝ }
 {
     call_codes::length_code(crate::core(catalogue, plan, area))
+}
+
+// in_use receives how many slots are in use.
+#[no_mangle]
+pub extern "C" fn busplan_slots(
+    catalogue: &[u8],
+    plan: &[u8],
+    area: &mut [u8],
+    slots: &mut [u16],
+    in_use: &mut [u64; 1],
+) -> i64
+    ensures answer { λ r. ⌜ r ≡ slotsCode (slotsAnswer (now (catalogue .entry)) (now (plan .entry)) (now (area .entry))
+        (now (slots .entry))) ⌝ }
+    ensures bytes { λ r. ⌜ now (area .exit) ≡ slotsArea (now (catalogue .entry)) (now (plan .entry))
+        (now (area .entry)) (now (slots .entry)) ⌝ }
+    ensures numbers { λ r. ⌜ now (slots .exit) ≡ slotsNumbers (now (catalogue .entry)) (now (plan .entry))
+        (now (area .entry)) (now (slots .entry)) ⌝ }
+    ensures number { λ r. ⌜ now (in_use .exit) ≡ inUseNumber (slotsAnswer (now (catalogue .entry)) (now (plan .entry))
+        (now (area .entry)) (now (slots .entry))) (now (in_use .entry)) ⌝ }
+{
+    let answer = crate::slots(catalogue, plan, area, slots);
+    *in_use = call_codes::slots_number(answer, *in_use);
+    call_codes::slots_code(answer)
+}
+
+#[no_mangle]
+pub extern "C" fn busplan_precedence(catalogue: &[u8], plan: &[u8], places: &[u16]) -> i64
+    ensures { λ r. ⌜ r ≡ precedenceCode (precedenceAnswer (now (catalogue .entry)) (now (plan .entry))
+        (now (places .entry))) ⌝ }
+{
+    call_codes::precedence_code(crate::precedence(catalogue, plan, places))
+}
+
+// fault receives the plan and the place.
+#[no_mangle]
+pub extern "C" fn busplan_precedence_fault(
+    catalogue: &[u8],
+    plan: &[u8],
+    places: &[u16],
+    fault: &mut [u64; 2],
+) -> i64
+    ensures answer { λ r. ⌜ r ≡ faultCode (precedenceFault (now (catalogue .entry)) (now (plan .entry))
+        (now (places .entry))) ⌝ }
+    ensures numbers { λ r. ⌜ now (fault .exit) ≡ faultNumbers (precedenceFault (now (catalogue .entry))
+        (now (plan .entry)) (now (places .entry))) (now (fault .entry)) ⌝ }
+{
+    let refused = call_codes::precedence_fault(crate::precedence(catalogue, plan, places));
+    *fault = call_codes::fault_numbers(refused, *fault);
+    call_codes::fault_code(refused)
 }
 
 #[no_mangle]

@@ -1,7 +1,7 @@
 // The calls on bus plans that are open to callers, each from a crate of its own, and the functions for callers from C.
 // A call takes any bytes as catalogue and plans and answers with a result or with exactly one refusal of the manual's
 // table; a refusal changes nothing that was lent. The crate spec defines what each call answers (specs/Calls.antt,
-// specs/Loops.antt) and states what that is worth (specs/Demands.antt).
+// specs/Slots.antt, specs/Precedence.antt, specs/Loops.antt) and states what that is worth (specs/Demands.antt).
 
 mod console;
 
@@ -12,6 +12,8 @@ pub use call_forms::core;
 pub use call_forms::normal_form;
 pub use call_lead_in_check::lead_in_check;
 pub use call_loops::loops;
+pub use call_precedence::precedence;
+pub use call_slots::slots;
 pub use notation_write_out::text_fault;
 pub use notation_write_out::write_out;
 
@@ -23,6 +25,8 @@ pub use spec::LeadIn;
 pub use spec::Lengths;
 pub use spec::Loops;
 pub use spec::NormalForm;
+pub use spec::Precedence;
 pub use spec::Reason;
 pub use spec::Refusal;
+pub use spec::Slots;
 pub use spec::Written;

@@ -7,14 +7,19 @@ ghost use lib.IntN.{pos, negℤ};
 ghost use Rattle.spec.specs.Table.{numberOf};
 ghost use Rattle.spec.specs.declared.Written.the-variants.{Length};
 ghost use Rattle.spec.specs.declared.Loops.the-variants.{Joined};
+ghost use Rattle.spec.specs.declared.Slots.the-variants.{Numbered};
 ghost use Rattle.spec.specs.Answers.{toldWritten, toldEquality, toldLoops, toldLeadIn, toldFault};
+ghost use Rattle.spec.specs.Answers.{toldSlots, toldPrecedence};
 ghost use Rattle.spec.specs.Codes.{lengthCode, equalCode, loopsCode, checkCode, faultCode};
+ghost use Rattle.spec.specs.Codes.{slotsCode, inUseNumber, precedenceCode, refusedBy};
 ghost use Rattle.spec.specs.Fault.{faultNumbers};
 use spec::Equality;
 use spec::Fault;
 use spec::LeadIn;
 use spec::Loops;
+use spec::Precedence;
 use spec::Reason;
+use spec::Slots;
 use spec::Written;
 
 // The number that the manual's table gives a reason.
@@ -57,6 +62,53 @@ pub fn length_code(answer: Written) -> i64
             let reason = refusal.reason;
             refusal_code(reason)
         }
+    }
+}
+
+pub fn slots_code(answer: Slots) -> i64
+    requires { ⌜ ((l n : ℕ) → answer ≡ Numbered l n → l < 2 ^ 63) ⌝ }
+    ensures { λ r. ⌜ r ≡ slotsCode (toldSlots answer) ⌝ }
+{
+    match answer {
+        Slots::Numbered { length, in_use: _ } => length as i64,
+        Slots::Refused(refusal) => {
+            let reason = refusal.reason;
+            refusal_code(reason)
+        }
+    }
+}
+
+// How many slots are in use, or the number that was there if the call is refused.
+pub fn slots_number(answer: Slots, number: [u64; 1]) -> [u64; 1]
+    ensures { λ r. ⌜ r ≡ inUseNumber (toldSlots answer) number ⌝ }
+{
+    match answer {
+        Slots::Numbered { length: _, in_use } => [in_use as u64],
+        Slots::Refused(_) => number,
+    }
+}
+
+pub fn precedence_code(answer: Precedence) -> i64
+    ensures { λ r. ⌜ r ≡ precedenceCode (toldPrecedence answer) ⌝ }
+{
+    match answer {
+        Precedence::Yes => 1,
+        Precedence::No => 0,
+        Precedence::Refused(refusal) => {
+            let reason = refusal.reason;
+            refusal_code(reason)
+        }
+    }
+}
+
+// What a precedence check is refused for, if it is.
+pub fn precedence_fault(answer: Precedence) -> Fault
+    ensures { λ r. ⌜ toldFault r ≡ refusedBy (toldPrecedence answer) ⌝ }
+{
+    match answer {
+        Precedence::Yes => Fault::Nothing,
+        Precedence::No => Fault::Nothing,
+        Precedence::Refused(refusal) => Fault::Found(refusal),
     }
 }
 
