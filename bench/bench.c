@@ -147,7 +147,7 @@ static struct question question_of(const struct subject *s, enum call call) {
 
 static void prepare(struct subject *s, const struct family *f, size_t size) {
     struct conflicts k;
-    struct area area[2] = {{s->lead_in.at, MOST_LETTERS}};
+    struct area area[MOST_AREAS] = {{s->lead_in.at, MOST_LETTERS}};
     seed_random(1);
     make_catalogue(&s->catalogue, f);
     f->make(s, f, size);
@@ -171,7 +171,7 @@ static uint8_t space[ENGINES][2][MOST_LETTERS];
 static bool joins(const struct question *q, const uint8_t *lead_in, size_t size) {
     static uint8_t spare[2][MOST_LETTERS];
     struct question check = {LEAD_IN_CHECK, q->catalogue, {q->plan[0], q->plan[1], {lead_in, size}}};
-    return ask_solver(&check, (struct area[2]){{spare[0], MOST_LETTERS}, {spare[1], MOST_LETTERS}}) == 1;
+    return ask_solver(&check, (struct area[MOST_AREAS]){{spare[0], MOST_LETTERS}, {spare[1], MOST_LETTERS}}) == 1;
 }
 
 /* The solver's answer and the solver's bytes; for loops any lead-in that the solver lets pass. */
@@ -184,7 +184,7 @@ static void compare_answers(const struct question *q) {
     int64_t answer[ENGINES];
     memset(space, 0, sizeof space);
     for (unsigned e = 0; e < ENGINES; e++)
-        answer[e] = engine[e](q, (struct area[2]){{space[e][0], room(q, 0)}, {space[e][1], room(q, 1)}});
+        answer[e] = engine[e](q, (struct area[MOST_AREAS]){{space[e][0], room(q, 0)}, {space[e][1], room(q, 1)}});
     for (unsigned e = 0; e < ENGINES; e++) {
         if (agrees(q, e, answer)) continue;
         fprintf(stderr, "bench: %s: %s answers %lld, the solver %lld, or other bytes\n", call_name[q->call],
@@ -262,7 +262,7 @@ static struct cost count_instructions(const struct question *q, const struct are
 }
 
 static struct cost measure(const struct question *q) {
-    struct area area[2] = {{space[LIBRARY][0], room(q, 0)}, {space[LIBRARY][1], room(q, 1)}};
+    struct area area[MOST_AREAS] = {{space[LIBRARY][0], room(q, 0)}, {space[LIBRARY][1], room(q, 1)}};
     compare_answers(q);
     return dumps ? count_instructions(q, area) : measure_time(q, area);
 }

@@ -1,7 +1,7 @@
-/* The manual's cases, its edges, its slips, its texts and its table of refusals, as rows with the answers that it
- * gives, but for the pairs of a normal form, which no call for C tells. Every row is put to the library and to the
- * solver, or the reader of texts, once with empty slices as null pointers and once not. Then what busplan.h says of the
- * room for areas and in words of each refusal. */
+/* The manual's cases, its edges, its slips, its texts, slots and places, and its table of refusals, as rows with the
+ * answers that it gives, but for the pairs of a normal form, which no call for C tells. Every row is put to the library
+ * and to the solver, or the reader of texts, once with empty slices as null pointers and once not. Then what busplan.h
+ * says of the room for areas and in words of each refusal. */
 #include "calls.h"
 #include "guarded.h"
 
@@ -10,7 +10,7 @@
 #include <stdlib.h>
 #include <string.h>
 
-/* What a row may say of an area: as large as stated, or one byte less, or a number of bytes. */
+/* What a row may say of an area: as large as stated, or one byte or number less, or how many there are. */
 enum { EXACT = -1, ONE_LESS = -2 };
 
 /* The answer of a row whose loops are joined: some lead-in, which is then checked. */
@@ -20,14 +20,16 @@ struct row {
     const char *name;
     enum call call;
     struct slice catalogue, plan[3];
-    int area[2];
+    int area[MOST_AREAS];
     int64_t answer;
-    struct slice written[2];
+    struct slice written[MOST_AREAS];
 };
 
 #define U(k) (128 + (k))
 #define P(...) {(const uint8_t[]){__VA_ARGS__}, sizeof (const uint8_t[]){__VA_ARGS__}}
 #define PAIR(a, b) {(const uint8_t *)(const uint64_t[2]){a, b}, 2 * sizeof(uint64_t)}
+#define NUMBERS(...) {(const uint8_t *)(const uint16_t[]){__VA_ARGS__}, sizeof (const uint16_t[]){__VA_ARGS__}}
+#define ONE_NUMBER(a) {(const uint8_t *)(const uint64_t[1]){a}, sizeof(uint64_t)}
 #define NONE {NULL, 0}
 #define NORMAL(name, catalogue, plan, area, answer, written) \
     {name, NORMAL_FORM, catalogue, {plan, NONE, NONE}, {area, EXACT}, answer, {written, NONE}}
@@ -46,6 +48,20 @@ struct row {
 #define FAULTLESS(name, catalogue, v, w, u) \
     {name, FAULT, catalogue, {v, w, u}, {EXACT, EXACT}, 0, {NONE, NONE}}
 
+/* The slots of a plan; a plan that is refused them; places that stay in order or not; and places, or a plan or a
+ * catalogue before them, that are refused, which both calls tell. */
+#define SLOTTED(name, catalogue, plan, area, slots_room, answer, written, slots, in_use) \
+    {name, SLOTS, catalogue, {plan, NONE, NONE}, {area, slots_room}, answer, {written, slots, ONE_NUMBER(in_use)}}
+#define NO_SLOTS(name, catalogue, plan, area, slots_room, refusal) \
+    {name, SLOTS, catalogue, {plan, NONE, NONE}, {area, slots_room}, -(refusal), {NONE, NONE}}
+#define PRECEDES(name, catalogue, plan, places, answer) \
+    {name, PRECEDENCE, catalogue, {plan, places, NONE}, {EXACT, EXACT}, answer, {NONE, NONE}}, \
+    {name, PRECEDENCE_FAULT, catalogue, {plan, places, NONE}, {EXACT, EXACT}, 0, {NONE, NONE}}
+#define MISPLACED(name, catalogue, plan, places, refusal, plan_number, place) \
+    {name, PRECEDENCE, catalogue, {plan, places, NONE}, {EXACT, EXACT}, -(refusal), {NONE, NONE}}, \
+    {name, PRECEDENCE_FAULT, catalogue, {plan, places, NONE}, {EXACT, EXACT}, -(refusal), \
+     {PAIR(plan_number, place), NONE}}
+
 /* A text that is written out, in an area of any size or one that is refused with 9; and one in which something else is
  * wrong, which both calls tell, whatever the area. */
 #define TEXT(s) {(const uint8_t *)(s), sizeof (s) - 1}
@@ -62,10 +78,14 @@ struct row {
 #define NO_COMMANDS P(0, 0)
 
 /* Filled by fill_long: plans of fillers, plans of the letter 1, catalogues of 24 and 25 commands without conflicts, a
- * catalogue of two commands whose first chain goes through 255 records, rings of 130 letters: 2 but for one 1, at the
- * end or in the middle, or one -1 at the end; and 1,023 fillers with a 1 at the end. */
+ * catalogue of 24 commands that all conflict, one of two commands whose first chain goes through 255 records, rings of
+ * 130 letters: 2 but for one 1, at the end or in the middle, or one -1 at the end; 1,023 fillers with a 1 at the end;
+ * each of 24 commands in turn, over and over; the numbers 0, 1, 2 and so on; as many zeros; and the places 0 1 0 1 and
+ * so on, of which there are more pairs than 16 bits count. */
+enum { LONG_LIST = 140000 };
 static uint8_t fillers[MOST_LEAD_IN + 1], ones[MOST_LEAD_IN + 1], twenty_four[26], twenty_five[27], long_chain[514];
-static uint8_t one_late[130], one_amid[130], undo_late[130], late_one[MOST_PLAN];
+static uint8_t one_late[130], one_amid[130], undo_late[130], late_one[MOST_PLAN], dense[72], in_turn[MOST_PLAN];
+static uint16_t counting[MOST_PLAN], zeros[MOST_PLAN], zero_one[LONG_LIST];
 #define FILLERS(n) {fillers, n}
 #define ONES(n) {ones, n}
 #define TWENTY_FOUR {twenty_four, sizeof twenty_four}
@@ -75,6 +95,11 @@ static uint8_t one_late[130], one_amid[130], undo_late[130], late_one[MOST_PLAN]
 #define ONE_AMID {one_amid, sizeof one_amid}
 #define UNDO_LATE {undo_late, sizeof undo_late}
 #define LATE_ONE {late_one, sizeof late_one}
+#define DENSE {dense, sizeof dense}
+#define IN_TURN(n) {in_turn, n}
+#define COUNTING(n) {(const uint8_t *)counting, (n) * sizeof(uint16_t)}
+#define ZEROS(n) {(const uint8_t *)zeros, (n) * sizeof(uint16_t)}
+#define ZERO_ONE(n) {(const uint8_t *)zero_one, (n) * sizeof(uint16_t)}
 
 static void fill_long(void) {
     memset(ones, 1, sizeof ones);
@@ -90,6 +115,18 @@ static void fill_long(void) {
     long_chain[0] = 2;
     long_chain[1] = 255;
     long_chain[2] = 1;
+    dense[0] = 24;
+    dense[1] = 23;
+    for (unsigned r = 1; r <= 23; r++) {
+        dense[1 + r] = (uint8_t)r;
+        dense[24 + 2 * r] = (uint8_t)(r + 1);
+        dense[24 + 2 * r + 1] = r < 23 ? (uint8_t)(r + 1) : 0;
+    }
+    for (unsigned i = 0; i < MOST_PLAN; i++) {
+        in_turn[i] = (uint8_t)(1 + i % 24);
+        counting[i] = (uint16_t)i;
+    }
+    for (unsigned i = 0; i < LONG_LIST; i++) zero_one[i] = i % 2;
     for (unsigned r = 1; r <= 255; r++) {
         long_chain[2 + 2 * r] = 2;
         long_chain[2 + 2 * r + 1] = r < 255 ? (uint8_t)(r + 1) : 0;
@@ -238,6 +275,83 @@ static const struct row rows[] = {
     FAULTLESS("24 commands", TWENTY_FOUR, P(24), P(152), P(24)),
     FAULTLESS("a chain of 255 records", LONG_CHAIN, P(1), P(2), NONE),
 
+    /* Slots */
+    SLOTTED("no letters", K, NONE, 0, 0, 0, NONE, NONE, 0),
+    SLOTTED("no commands", NO_COMMANDS, FILLERS(3), EXACT, EXACT, 0, NONE, NONE, 0),
+    SLOTTED("two and two", K, P(1, 3, 2, 4), EXACT, EXACT, 4, P(1, 3, 2, 4), NUMBERS(0, 0, 1, 1), 2),
+    SLOTTED("letters of one command", K, P(1, 1, 1), EXACT, EXACT, 3, P(1, 1, 1), NUMBERS(0, 1, 2), 3),
+    SLOTTED("24 independent commands", TWENTY_FOUR, IN_TURN(24), EXACT, EXACT, 24, IN_TURN(24), ZEROS(24), 1),
+    SLOTTED("24 commands that conflict", DENSE, IN_TURN(24), EXACT, EXACT, 24, IN_TURN(24), COUNTING(24), 24),
+    SLOTTED("1,024 letters that conflict", DENSE, IN_TURN(1024), EXACT, EXACT, 1024, IN_TURN(1024), COUNTING(1024),
+            1024),
+    SLOTTED("1,024 letters of one command", K, ONES(1024), EXACT, EXACT, 1024, ONES(1024), COUNTING(1024), 1024),
+    SLOTTED("slots are not in the order of the letters", K, P(1, 2, 3, 1, 4), EXACT, EXACT, 5, P(1, 2, 1, 3, 4),
+            NUMBERS(0, 1, 2, 2, 3), 4),
+    SLOTTED("a late letter in an early slot", K, P(1, 2, 1, 4), EXACT, EXACT, 4, P(1, 2, 1, 4), NUMBERS(0, 1, 2, 0), 3),
+    SLOTTED("one more than the largest slot", K, P(2, 2, 4, 3), EXACT, EXACT, 4, P(2, 2, 4, 3), NUMBERS(0, 1, 0, 2), 3),
+    SLOTTED("an undo conflicts with its command", K, P(1, 2, U(1)), EXACT, EXACT, 3, P(1, 2, U(1)), NUMBERS(0, 1, 2),
+            3),
+    SLOTTED("what has cancelled has no slot", K, P(0, 2, 4, 3, 1, U(3)), EXACT, EXACT, 3, P(2, 1, 4),
+            NUMBERS(0, 1, 0), 2),
+    SLOTTED("all has cancelled", K, P(1, 2, U(2), U(1)), EXACT, EXACT, 0, NONE, NONE, 0),
+    SLOTTED("slots with room to spare", K, P(3, 1), 20, 30, 2, P(1, 3), NUMBERS(0, 0), 1),
+    NO_SLOTS("an area of one byte less", K, P(0, 1), ONE_LESS, EXACT, 9),
+    NO_SLOTS("slots of one number less", K, P(0, 1), EXACT, ONE_LESS, 9),
+    NO_SLOTS("room for the normal form alone", K, P(1, U(1)), 0, 0, 9),
+    NO_SLOTS("as many bytes as numbers are needed", K, P(1, 2, 3, 4), EXACT, 2, 9),
+    NO_SLOTS("a byte before the areas", K, P(5), 0, 0, 8),
+    NO_SLOTS("1,025 letters before the areas", K, ONES(1025), 0, 0, 7),
+    NO_SLOTS("25 commands before the plan", TWENTY_FIVE, P(5), 0, 0, 2),
+    NO_SLOTS("an endless chain before the plan", P(2, 1, 0, 1, 1, 1), P(5), EXACT, EXACT, 5),
+
+    /* Places that stay in order */
+    PRECEDES("no places", K, P(1, 2, 3), NONE, 1),
+    PRECEDES("no places of no letters", NO_COMMANDS, NONE, NONE, 1),
+    PRECEDES("two that conflict", K, P(1, 2), NUMBERS(0, 1), 1),
+    PRECEDES("the later one first", K, P(1, 2), NUMBERS(1, 0), 0),
+    PRECEDES("1 before 3 through 2", K, P(1, 2, 3), NUMBERS(0, 2), 1),
+    PRECEDES("1 before 4 through 2 and 3", K, P(1, 2, 3, 4), NUMBERS(0, 3), 1),
+    PRECEDES("no conflict", TWENTY_FOUR, P(1, 2, 3), NUMBERS(0, 2), 0),
+    PRECEDES("2 between 1 and 4, and no chain", K, P(1, 2, 4), NUMBERS(0, 2), 0),
+    PRECEDES("a chain must go forwards", K, P(1, 3, 2), NUMBERS(0, 1), 0),
+    PRECEDES("letters of one command", K, P(1, 3, 1), NUMBERS(0, 1), 1),
+    PRECEDES("letters of one command, the later one first", K, P(1, 1), NUMBERS(1, 0), 0),
+    PRECEDES("a letter of one command as link", K, P(1, 1, 2), NUMBERS(0, 2), 1),
+    PRECEDES("a command and its undo", K, P(1, 2, U(1)), NUMBERS(0, 2), 1),
+    PRECEDES("places of the normal form", K, P(2, 4, 3, 1, U(3)), NUMBERS(0, 1), 1),
+    PRECEDES("places of the normal form that swap", K, P(2, 4, 3, 1, U(3)), NUMBERS(0, 2), 0),
+    PRECEDES("two pairs", K, P(1, 2, 3), NUMBERS(0, 2, 1, 2), 1),
+    PRECEDES("the first of two pairs does not", K, P(1, 3, 2), NUMBERS(0, 1, 0, 2), 0),
+    PRECEDES("the second of two pairs does not", K, P(1, 3, 2), NUMBERS(0, 2, 0, 1), 0),
+    PRECEDES("1,024 letters", DENSE, IN_TURN(1024), NUMBERS(0, 1023, 1022, 1023), 1),
+    PRECEDES("1,024 letters that swap", TWENTY_FOUR, IN_TURN(1024), NUMBERS(0, 1000), 0),
+    PRECEDES("70,000 pairs", K, P(1, 2), ZERO_ONE(LONG_LIST), 1),
+
+    /* Places that are refused */
+    MISPLACED("the same place twice", K, P(1, 2), NUMBERS(0, 0), 16, 0, 0),
+    MISPLACED("the same place twice, of other letters", K, P(1, 2, 3), NUMBERS(0, 1, 2, 2), 16, 0, 1),
+    MISPLACED("one place", K, P(1, 2), NUMBERS(0), 16, 0, 0),
+    MISPLACED("three places", K, P(1, 2), NUMBERS(0, 1, 0), 16, 0, 1),
+    MISPLACED("three places, also where a pair does not stay", K, P(1, 3), NUMBERS(0, 1, 0), 16, 0, 1),
+    MISPLACED("all pairs before a no", K, P(1, 2), NUMBERS(1, 0, 1, 0, 1, 1), 16, 0, 2),
+    MISPLACED("place L", K, P(1, 2, 3), NUMBERS(0, 3), 16, 0, 0),
+    MISPLACED("place L first", K, P(1, 2, 3), NUMBERS(3, 0), 16, 0, 0),
+    MISPLACED("place L of the normal form", K, P(1, 3, U(1), 4), NUMBERS(0, 1, 0, 2), 16, 0, 1),
+    MISPLACED("a place of no letters", K, P(1, U(1)), NUMBERS(0, 1), 16, 0, 0),
+    MISPLACED("place 65,535", K, ONES(1024), NUMBERS(0, 1023, 0, 65535), 16, 0, 1),
+    MISPLACED("place 256 of 2", K, P(1, 2), NUMBERS(0, 256), 16, 0, 0),
+    MISPLACED("place 1,024 of 1,024", K, ONES(1024), NUMBERS(0, 1024), 16, 0, 0),
+    MISPLACED("the first of two", K, P(1, 2), NUMBERS(0, 1, 1, 1, 0, 2), 16, 0, 1),
+    MISPLACED("the last of 70,000 pairs", K, P(1, 2), ZERO_ONE(LONG_LIST - 1), 16, 0, LONG_LIST / 2 - 1),
+    MISPLACED("a byte before the places", K, P(1, 5), NUMBERS(0), 8, 1, 1),
+    MISPLACED("1,025 letters before the places", K, ONES(1025), NUMBERS(0), 7, 1, 0),
+    MISPLACED("a catalogue of one byte before the places", P(0), P(5), NUMBERS(0, 0), 1, 0, 0),
+    MISPLACED("25 commands before the places", TWENTY_FIVE, P(1), NUMBERS(0, 0), 2, 0, 0),
+    MISPLACED("an index before the places", P(1, 0, 1), P(1), NUMBERS(0, 0), 3, 0, 2),
+    MISPLACED("a record before the places", P(2, 1, 1, 0, 0, 0), P(1), NUMBERS(0, 0), 4, 0, 4),
+    MISPLACED("an endless chain before the places", P(2, 1, 0, 1, 1, 1), P(1), NUMBERS(0, 0), 5, 0, 3),
+    MISPLACED("a command in its own chain before the places", P(2, 1, 0, 1, 2, 0), P(1), NUMBERS(0, 0), 6, 0, 3),
+
     /* Texts, under 24 commands where nothing else is said */
     WRITES("an empty text", TWENTY_FOUR, "", 0, 0, NONE),
     WRITES("an empty text under no commands", NO_COMMANDS, "", 0, 0, NONE),
@@ -353,8 +467,8 @@ static const struct row rows[] = {
     LOOP("slip 6: net counts in one ring", K, P(1, 2, 1, 2), P(1, 1, 2, 2), EXACT, 0),
 };
 
-static struct guarded lent[2];
-static uint8_t nothing[1];
+static struct guarded lent[MOST_AREAS];
+static _Alignas(uint64_t) uint8_t nothing[1];
 
 static void fail(const struct row *row, const char *who, const char *what, int64_t answer) {
     fprintf(stderr, "cases: %s: %s, by the %s: %s (answer %" PRId64 ")\n", row->name, call_name[row->call], who, what,
@@ -365,7 +479,7 @@ static void fail(const struct row *row, const char *who, const char *what, int64
 /* The lead-in in area 0 must be a normal form of at most N(n + m) letters and pass both checks. */
 static void check_lead_in(const struct row *row, const struct question *asked, const char *who, int64_t answer) {
     static uint8_t space[2][MOST_GUARDED];
-    struct area spare[2] = {{space[0], sizeof space[0]}, {space[1], sizeof space[1]}};
+    struct area spare[MOST_AREAS] = {{space[0], sizeof space[0]}, {space[1], sizeof space[1]}};
     struct question q = *asked;
     struct conflicts k;
     struct word u, normal;
@@ -386,19 +500,25 @@ static struct slice give(struct slice slice, bool nulls) {
     return slice.size == 0 && !nulls ? (struct slice){nothing, 0} : slice;
 }
 
+/* The bytes of an area of a row. */
+static size_t area_size(const struct row *row, const struct question *q, unsigned area) {
+    size_t exact = room(q, area), each = unit(row->call, area);
+    if (area >= sized_areas_of[row->call] || row->area[area] == EXACT) return exact;
+    return row->area[area] == ONE_LESS ? exact - each : (size_t)row->area[area] * each;
+}
+
 static void run(const struct row *row, bool library, bool nulls) {
     const char *who = library ? "library" : "solver";
     struct question q = {.call = row->call, .catalogue = give(row->catalogue, nulls)};
-    struct area area[2] = {{0}};
+    struct area area[MOST_AREAS] = {{0}};
     for (unsigned i = 0; i < 3; i++) q.plan[i] = give(row->plan[i], nulls);
     for (unsigned i = 0; i < areas_of[row->call]; i++) {
-        size_t exact = room(&q, i);
-        size_t size = row->area[i] == EXACT ? exact : row->area[i] == ONE_LESS ? exact - 1 : (size_t)row->area[i];
+        size_t size = area_size(row, &q, i);
         guarded_noise(&lent[i], size, true, size);
         area[i] = (struct area){size == 0 && nulls ? NULL : lent[i].at, size};
     }
     int64_t answer = library ? ask_library(&q, area) : ask_solver(&q, area);
-    if (library && !fault_tells(&q, answer)) fail(row, who, "busplan_fault tells another refusal", answer);
+    if (library && !fault_tells(&q, answer)) fail(row, who, "another refusal is told as the fault", answer);
     if (row->answer == JOINED) {
         check_lead_in(row, &q, who, answer);
         return;
@@ -409,26 +529,29 @@ static void run(const struct row *row, bool library, bool nulls) {
             fail(row, who, "other bytes in an area", answer);
 }
 
-/* A row that no line from 1 to 8 refuses is refused by 9 just where an area has a byte less than busplan.h says. What
- * a text needs is in no macro, but its rows have areas of just that size and less. */
+/* A row that no line from 1 to 8 refuses is refused by 9 just where an area has a byte or number less than busplan.h
+ * says. What a text needs is in no macro, but its rows have areas of just that size and less. */
 static void check_room(const struct row *row) {
     struct question q = {row->call, row->catalogue, {row->plan[0], row->plan[1], row->plan[2]}};
-    struct area area[2];
+    struct area area[MOST_AREAS];
+    unsigned sized = sized_areas_of[row->call];
     if ((row->answer < 0 && row->answer != -BUSPLAN_AREA_SIZE) || row->call == WRITE_OUT) return;
-    for (unsigned less = 0; less <= areas_of[row->call] && sizes_areas(row->call); less++) {
-        for (unsigned i = 0; i < 2; i++) {
+    for (unsigned less = 0; less <= sized && sized > 0; less++) {
+        for (unsigned i = 0; i < areas_of[row->call]; i++) {
             guarded_noise(&lent[i], room(&q, i), true, 0);
             area[i] = (struct area){lent[i].at, lent[i].size};
         }
-        if (less > 0 && area[less - 1].size-- == 0) continue;
+        if (less > 0 && area[less - 1].size == 0) continue;
+        if (less > 0) area[less - 1].size -= unit(row->call, less - 1);
         if ((ask_library(&q, area) == -BUSPLAN_AREA_SIZE) != (less > 0))
-            fail(row, "library", less > 0 ? "passed in a byte less" : "refused in the room that it needs", -9);
+            fail(row, "library", less > 0 ? "passed in one less" : "refused in the room that it needs", -9);
     }
 }
 
 /* The largest room is what the largest plans ask for. */
 _Static_assert(BUSPLAN_MAX_CATALOGUE == 2 + BUSPLAN_MAX_COMMANDS + 2 * 255, "the largest catalogue");
 _Static_assert(BUSPLAN_MAX_FORM_ROOM == BUSPLAN_FORM_ROOM(BUSPLAN_MAX_PLAN), "the room for a form");
+_Static_assert(BUSPLAN_MAX_SLOTS_ROOM == BUSPLAN_SLOTS_ROOM(BUSPLAN_MAX_PLAN), "the room for slots");
 _Static_assert(BUSPLAN_MAX_LOOPS_ROOM
                == BUSPLAN_LOOPS_ROOM(BUSPLAN_MAX_COMMANDS, BUSPLAN_MAX_PLAN, BUSPLAN_MAX_PLAN), "the room for loops");
 _Static_assert(BUSPLAN_MAX_CHECK_ROOM == BUSPLAN_CHECK_ROOM0(BUSPLAN_MAX_PLAN, BUSPLAN_MAX_LEAD_IN), "area 0");
@@ -444,8 +567,8 @@ static const struct {
     {-1, "2 + N + 2R"}, {-2, "24 commands"}, {-3, "index"}, {-4, "record whose"}, {-5, "doesn't end"},
     {-6, "its own chain"}, {-7, "a lead-in over"}, {-8, "byte that"}, {-9, "area"}, {-11, "framed"},
     {-12, "letters that cancelled"}, {-13, "notation"}, {-14, "deeper than 8"}, {-15, "written out"},
-    {0, "not refused"}, {1, "not refused"}, {INT64_MAX, "not refused"},
-    {-10, "no refusal of this library"}, {-16, "no refusal of this library"}, {INT64_MIN, "no refusal of this library"},
+    {-16, "different places"}, {0, "not refused"}, {1, "not refused"}, {INT64_MAX, "not refused"},
+    {-10, "no refusal of this library"}, {-17, "no refusal of this library"}, {INT64_MIN, "no refusal of this library"},
 };
 
 static void check_texts(void) {
@@ -463,8 +586,7 @@ static void check_texts(void) {
 int main(void) {
     size_t count = sizeof rows / sizeof rows[0];
     fill_long();
-    guarded_open(&lent[0]);
-    guarded_open(&lent[1]);
+    for (unsigned i = 0; i < MOST_AREAS; i++) guarded_open(&lent[i]);
     for (size_t i = 0; i < count; i++) {
         for (unsigned way = 0; way < 4; way++) run(&rows[i], way / 2 == 1, way % 2 == 1);
         check_room(&rows[i]);

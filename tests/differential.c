@@ -1,6 +1,6 @@
 /* Puts random questions about plans to the library and to the solver and compares the answers, every byte of the areas,
  * and bytes beside them. Usage: differential [SEED [CALLS]]. A difference prints the question in hexadecimal and fails.
- * notation.c does this for texts. */
+ * For short plans searches say what the answers must be. notation.c does all this for texts. */
 #include "brute.h"
 #include "calls.h"
 #include "guarded.h"
@@ -14,15 +14,20 @@
 
 static uint64_t seed = 1, calls;
 
-/* The inputs as drawn, the guarded memory they are handed over in, and the areas: the library's and the solver's. */
-static struct bytes catalogue, plan[3];
-static struct guarded given[4], lent[2];
-static _Alignas(uint64_t) uint8_t expected_bytes[2][MOST_GUARDED];
+/* The inputs as drawn, the guarded memory they are handed over in, and the areas: the library's and the solver's.
+ * Behind the plans stands the list of places, which some calls take as their plan 2. */
+enum { LIST = 3 };
+static struct bytes catalogue, plan[4];
+static struct guarded given[5], lent[MOST_AREAS];
+static _Alignas(uint64_t) uint8_t expected_bytes[MOST_AREAS][MOST_GUARDED];
 static struct question question;
 
-/* How often each call gave each answer: 0, minus 1 to 10, or ABOVE for any answer above 0. */
-enum { ABOVE = 11, ANSWERS = 12 };
-static uint64_t answers[PLAN_CALLS][ANSWERS];
+/* How often each call gave each answer: 0, minus 1 to 16, or ABOVE for any answer above 0. */
+enum { ABOVE = 17, ANSWERS = 18 };
+static uint64_t answers[TEXT_CALLS][ANSWERS];
+
+/* Which of them a call takes as its plan 1, 2 or 3. */
+static unsigned drawn(enum call call, unsigned number) { return call >= PLAN_CALLS && number == 1 ? LIST : number; }
 
 /* ---- When something is wrong */
 
@@ -33,11 +38,14 @@ static void print_bytes(const char *name, const uint8_t *at, size_t size) {
 }
 
 static void fail(const char *what) {
-    static const char *const plan_name[3] = {"plan 1", "plan 2", "plan 3"};
+    static const char *const plan_name[4] = {"plan 1", "plan 2", "plan 3", "places"};
     fprintf(stderr, "differential: seed %" PRIu64 ", call %" PRIu64 ", %s: %s\n", seed, calls,
             call_name[question.call], what);
     print_bytes("catalogue", catalogue.at, catalogue.size);
-    for (unsigned i = 0; i < plans_of[question.call]; i++) print_bytes(plan_name[i], plan[i].at, plan[i].size);
+    for (unsigned i = 0; i < plans_of[question.call]; i++) {
+        unsigned from = drawn(question.call, i);
+        print_bytes(plan_name[from], plan[from].at, plan[from].size);
+    }
     for (unsigned i = 0; i < areas_of[question.call]; i++) fprintf(stderr, "  area %u: %zu bytes\n", i, lent[i].size);
     exit(1);
 }
@@ -75,19 +83,20 @@ static void give_all(void) {
     for (unsigned i = 0; i < 3; i++) question.plan[i] = give(&given[1 + i], &plan[i]);
 }
 
-/* Mostly as many bytes as are needed, or more; else one less, or far less. Always as many where no size is told. */
-static size_t area_size(enum call call, size_t needed) {
-    size_t which = below(100), size = needed;
-    if (!sizes_areas(call)) return needed;
+/* Mostly as many bytes, or numbers, as are needed, or more; else one less, or far less. Always as many where no size is
+ * told. */
+static size_t area_size(enum call call, unsigned area) {
+    size_t which = below(100), each = unit(call, area), needed = room(&question, area) / each, size = needed;
+    if (area >= sized_areas_of[call]) return needed;
     if (which < 30) size = needed + 1 + below(40);
     if (which >= 90 && needed > 0) size = which < 98 ? needed - 1 : below(needed);
-    return size < 60000 ? size : 60000;
+    return size * each < 60000 ? size * each : 60000;
 }
 
 /* The lead-in that the library gives is free: it must be a normal form, short enough, and join the two loops. */
 static void check_lead_in(const struct conflicts *k, int64_t got) {
     static uint8_t space[2][MOST_GUARDED];
-    struct area spare[2] = {{space[0], sizeof space[0]}, {space[1], sizeof space[1]}};
+    struct area spare[MOST_AREAS] = {{space[0], sizeof space[0]}, {space[1], sizeof space[1]}};
     struct question check = question;
     struct word u, normal;
     size_t size = (size_t)got - 1;
@@ -104,13 +113,35 @@ static void check_lead_in(const struct conflicts *k, int64_t got) {
     if (!guarded_holds(&lent[0], u.letter, size)) fail("bytes past the lead-in are changed");
 }
 
+/* The slots that the library gives: of two conflicting letters the earlier has the smaller one, and the longest chain
+ * of conflicting letters has as many letters as there are slots in use. By any numbering of which the former holds the
+ * letters of a chain have different slots, so none has fewer. */
+static void check_slots(size_t size) {
+    static uint16_t slots[MOST_PLAN], chain[MOST_PLAN];
+    struct conflicts k;
+    uint64_t in_use, longest = 0;
+    solver_catalogue(catalogue.at, catalogue.size, &k);
+    memcpy(slots, lent[1].at, size * sizeof slots[0]);
+    memcpy(&in_use, lent[2].at, sizeof in_use);
+    for (size_t i = size; i-- > 0;) {
+        chain[i] = 1;
+        for (size_t j = i + 1; j < size; j++) {
+            if (!conflict(&k, lent[0].at[i], lent[0].at[j])) continue;
+            if (slots[i] >= slots[j]) fail("of two conflicting letters the earlier does not have the smaller slot");
+            if (chain[j] >= chain[i]) chain[i] = (uint16_t)(chain[j] + 1);
+        }
+        if (chain[i] > longest) longest = chain[i];
+    }
+    if (in_use != longest) fail("the longest chain has not as many letters as there are slots in use");
+}
+
 /* Asks both and compares. Returns the library's answer. */
 static int64_t compare(enum call call) {
-    struct area area[2] = {{0}}, expected_area[2] = {{0}};
+    struct area area[MOST_AREAS] = {{0}}, expected_area[MOST_AREAS] = {{0}};
     struct conflicts k;
     question.call = call;
     for (unsigned i = 0; i < areas_of[call]; i++) {
-        guarded_noise(&lent[i], area_size(call, room(&question, i)), chance(50), below(1 << 15));
+        guarded_noise(&lent[i], area_size(call, i), chance(50), below(1 << 15));
         memcpy(expected_bytes[i], lent[i].at, lent[i].size);
         expected_area[i] = (struct area){expected_bytes[i], lent[i].size};
         area[i] = (struct area){lent[i].size == 0 && chance(50) ? NULL : lent[i].at, lent[i].size};
@@ -126,10 +157,13 @@ static int64_t compare(enum call call) {
         for (unsigned i = 0; i < areas_of[call]; i++)
             if (!guarded_holds(&lent[i], expected_bytes[i], lent[i].size)) fail("the bytes of an area differ");
     }
+    if (call == SLOTS && got > 0) check_slots((size_t)got);
     if (!guarded_holds(&given[0], catalogue.at, catalogue.size)) fail("the catalogue is changed");
-    for (unsigned i = 0; i < plans_of[call]; i++)
-        if (!guarded_holds(&given[1 + i], plan[i].at, plan[i].size)) fail("a plan is changed");
-    if (!fault_tells(&question, got)) fail("busplan_fault tells another refusal");
+    for (unsigned i = 0; i < plans_of[call]; i++) {
+        const struct bytes *from = &plan[drawn(call, i)];
+        if (!guarded_holds(&given[1 + drawn(call, i)], from->at, from->size)) fail("a plan is changed, or the places");
+    }
+    if (!fault_tells(&question, got)) fail("another refusal is told as the fault");
     return got;
 }
 
@@ -156,18 +190,9 @@ static void damage(const struct conflicts *k) {
     if (chance(8)) damage_catalogue(&catalogue);
 }
 
-/* Damage upon damage, so that several lines hold and the first of them is to be told with its place. */
-static void damage_more(const struct conflicts *k) {
-    for (unsigned i = 0; i < 4; i++) {
-        damage(k);
-        give_all();
-        compare(FAULT);
-    }
-}
-
 /* Puts what the library wrote as a lead-in, or what the solver wrote, in the place of plan 3. */
 static void take_lead_in(int64_t answer) {
-    struct area area[2] = {{expected_bytes[0], MOST_GUARDED}};
+    struct area area[MOST_AREAS] = {{expected_bytes[0], MOST_GUARDED}};
     bool solvers = chance(30);
     if (solvers) answer = ask_solver(&question, area);
     plan[2].size = (size_t)answer - 1;
@@ -177,7 +202,7 @@ static void take_lead_in(int64_t answer) {
 
 /* Whether the solver's answer to a call on one plan is this word. */
 static bool solver_writes(enum call call, struct slice on, const struct word *w) {
-    struct area area[2] = {{expected_bytes[0], MOST_GUARDED}};
+    struct area area[MOST_AREAS] = {{expected_bytes[0], MOST_GUARDED}};
     struct question q = {call, question.catalogue, {on}};
     return ask_solver(&q, area) == (int64_t)w->size && memcmp(expected_bytes[0], w->letter, w->size) == 0;
 }
@@ -188,7 +213,7 @@ static bool solver_writes(enum call call, struct slice on, const struct word *w)
 static void ask_brute(void) {
     struct conflicts k;
     struct word brute[2], core;
-    struct area area[2] = {{expected_bytes[0], MOST_GUARDED}};
+    struct area area[MOST_AREAS] = {{expected_bytes[0], MOST_GUARDED}};
     solver_catalogue(catalogue.at, catalogue.size, &k);
     for (unsigned i = 0; i < 2; i++) {
         solver_word(plan[i].at, plan[i].size, &brute[i]);
@@ -208,6 +233,81 @@ static void ask_brute(void) {
     if (joined != solver_same(&brute[0], &brute[1])) fail("the search finds another verdict");
 }
 
+/* For a short normal form w of plan 1: its slots by trying all chains, and of even fewer letters by trying all ways to
+ * number them. */
+static void ask_brute_slots(const struct conflicts *k, const struct word *w) {
+    uint8_t area[MOST_PLAN];
+    uint16_t slots[MOST_PLAN];
+    unsigned smallest[MOST_NUMBERED];
+    uint64_t in_use[1];
+    size_t longest = 0, fewest;
+    if (busplan_slots(PUT(question.catalogue), PUT(question.plan[0]), area, MOST_PLAN, slots, MOST_PLAN, in_use)
+        != (int64_t)w->size) fail("the slots are not those of the normal form");
+    for (size_t i = 0; i < w->size; i++) {
+        size_t chain = brute_chain(k, w, i);
+        if (slots[i] != chain - 1) fail("the search finds another chain to a letter than its slot says");
+        if (chain > longest) longest = chain;
+    }
+    if (in_use[0] != longest) fail("the search finds another longest chain");
+    if (w->size > MOST_NUMBERED) return;
+    brute_numbers(k, w, smallest, &fewest);
+    for (size_t i = 0; i < w->size; i++)
+        if (slots[i] != smallest[i]) fail("the search finds a smaller slot");
+    if (in_use[0] != fewest) fail("the search finds fewer slots");
+}
+
+/* Every pair of its places, by trying all arrangements. */
+static void ask_brute_precedence(const struct conflicts *k, const struct word *w) {
+    unsigned before[MOST_ARRANGED];
+    brute_before(k, w, before);
+    for (uint16_t i = 0; i < w->size; i++) {
+        for (uint16_t j = 0; j < w->size; j++) {
+            const uint16_t pair[2] = {i, j};
+            int64_t got = busplan_precedence(PUT(question.catalogue), PUT(question.plan[0]), pair, 2);
+            int64_t expected = i == j ? -BUSPLAN_PLACES : (int64_t)(before[i] >> j & 1);
+            if (got == expected) continue;
+            fprintf(stderr, "  the library answers %" PRId64 " for places %u %u\n", got, i, j);
+            fail("the search finds another answer for these places");
+        }
+    }
+}
+
+/* Asks about places in the normal form of plan 1; where that or the catalogue is refused, about any. */
+static void ask_places(void) {
+    struct conflicts k;
+    struct word w;
+    uint64_t fault[2];
+    bool right = solver_fault(PUT(catalogue), plan[0].at, plan[0].size, NULL, 0, NULL, 0, fault) == 0;
+    plan[LIST].size = w.size = 0;
+    if (right) {
+        solver_catalogue(catalogue.at, catalogue.size, &k);
+        solver_word(plan[0].at, plan[0].size, &w);
+        solver_normal(&k, &w);
+        random_places(&k, &w, &plan[LIST]);
+    }
+    if (!right || chance(40))
+        do damage_places(w.size, &plan[LIST]);
+        while (chance(40));
+    question.plan[1] = give(&given[1 + LIST], &plan[LIST]);
+    compare(PRECEDENCE);
+    compare(PRECEDENCE_FAULT);
+    if (!right || w.size > MOST_ARRANGED || !chance(10)) return;
+    question.call = SLOTS;
+    ask_brute_slots(&k, &w);
+    question.call = PRECEDENCE;
+    ask_brute_precedence(&k, &w);
+}
+
+/* Damage upon damage, so that several lines hold and the first of them is to be told with its place. */
+static void damage_more(const struct conflicts *k) {
+    for (unsigned i = 0; i < 4; i++) {
+        damage(k);
+        give_all();
+        compare(FAULT);
+    }
+    ask_places();
+}
+
 static void round_of_calls(void) {
     struct conflicts k;
     bool settling = below(2000) == 0, damaged = !settling && chance(25);
@@ -219,6 +319,7 @@ static void round_of_calls(void) {
     give_all();
     compare(NORMAL_FORM);
     compare(CORE);
+    compare(SLOTS);
     compare(EQUAL);
     compare(FAULT);
     compare(LEAD_IN_CHECK);
@@ -228,26 +329,27 @@ static void round_of_calls(void) {
         if (compare(LEAD_IN_CHECK) == 0) fail("a lead-in of two joined loops does not pass the check");
     }
     if (answer >= 0 && chance(10)) ask_brute();
+    ask_places();
     if (damaged) damage_more(&k);
 }
 
 /* ---- The whole */
 
-/* Whether a call can give an answer: 0, minus 1 to 10, or ABOVE. Refusal 10 is retired and must not come up. */
+/* Whether a call can give an answer: 0, minus 1 to 16, or ABOVE. Refusal 10 is retired and must not come up. */
 static bool possible(enum call call, unsigned answer) {
-    if (answer == ABOVE) return call != FAULT;
-    return answer <= 8 || (answer == 9 && sizes_areas(call));
+    if (answer == ABOVE) return !tells_fault(call);
+    return answer <= 8 || (answer == 9 && sized_areas_of[call] > 0) || tellable(teller_of(call), -(int64_t)answer);
 }
 
 /* Every answer that a call can give must have come up, and no other. */
 static void print_answers(void) {
-    printf("%-14s %8s %8s", "answer", "above 0", "0");
+    printf("%-16s %8s %8s", "answer", "above 0", "0");
     for (int i = 1; i <= 9; i++) printf(" %8d", -i);
-    putchar('\n');
-    for (unsigned call = 0; call < PLAN_CALLS; call++) {
-        printf("%-14s %8" PRIu64 " %8" PRIu64, call_name[call], answers[call][ABOVE], answers[call][0]);
+    printf(" %8d\n", -BUSPLAN_PLACES);
+    for (unsigned call = 0; call < TEXT_CALLS; call++) {
+        printf("%-16s %8" PRIu64 " %8" PRIu64, call_name[call], answers[call][ABOVE], answers[call][0]);
         for (unsigned i = 1; i <= 9; i++) printf(" %8" PRIu64, answers[call][i]);
-        putchar('\n');
+        printf(" %8" PRIu64 "\n", answers[call][BUSPLAN_PLACES]);
         for (unsigned i = 0; i < ANSWERS; i++) {
             bool expected = possible((enum call)call, i);
             if (calls >= 100000 && expected != (answers[call][i] > 0)) {
@@ -259,13 +361,13 @@ static void print_answers(void) {
 }
 
 int main(int count, char **argument) {
-    uint64_t wanted = 2000000;
+    uint64_t wanted = 3000000;
     if (count > 1) seed = strtoull(argument[1], NULL, 10);
     if (count > 2) wanted = strtoull(argument[2], NULL, 10);
     seed_random(seed);
     catch_stops();
-    for (unsigned i = 0; i < 4; i++) guarded_open(&given[i]);
-    for (unsigned i = 0; i < 2; i++) guarded_open(&lent[i]);
+    for (unsigned i = 0; i < 5; i++) guarded_open(&given[i]);
+    for (unsigned i = 0; i < MOST_AREAS; i++) guarded_open(&lent[i]);
     while (calls < wanted) round_of_calls();
     print_answers();
     printf("differential: %" PRIu64 " calls, seed %" PRIu64 ": all agree\n", calls, seed);

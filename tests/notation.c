@@ -77,7 +77,7 @@ static struct slice give(struct guarded *g, const struct bytes *from) {
 
 /* Asks both and compares. */
 static void compare(enum call call, size_t size) {
-    struct area area[2] = {{0}}, expected_area[2] = {{expected_bytes, size}};
+    struct area area[MOST_AREAS] = {{0}}, expected_area[MOST_AREAS] = {{expected_bytes, size}};
     question.call = call;
     guarded_noise(&lent, size, chance(50), below(1 << 15));
     memcpy(expected_bytes, lent.at, size);
@@ -94,7 +94,7 @@ static void compare(enum call call, size_t size) {
 
 /* The length of the plan that is written out, or minus a refusal. */
 static int64_t length_wanted(void) {
-    struct area area[2] = {{expected_bytes, MOST_PLAN}};
+    struct area area[MOST_AREAS] = {{expected_bytes, MOST_PLAN}};
     question.call = WRITE_OUT;
     return ask_solver(&question, area);
 }
@@ -290,11 +290,11 @@ static void try_random(void) {
 /* Whether a call can give an answer: 0, minus 1 to 15, or ABOVE. */
 static bool possible(enum call call, unsigned answer) {
     if (answer == ABOVE || answer == BUSPLAN_AREA_SIZE) return call == WRITE_OUT;
-    return answer == 0 || tellable(call, -(int64_t)answer);
+    return answer == 0 || tellable(teller_of(call), -(int64_t)answer);
 }
 
 static void check_answers(void) {
-    for (unsigned call = PLAN_CALLS; call < CALLS; call++) {
+    for (unsigned call = TEXT_CALLS; call < CALLS; call++) {
         for (unsigned i = 0; i < ANSWERS; i++) {
             bool expected = possible((enum call)call, i);
             if (expected == (answers[call][i] > 0)) continue;

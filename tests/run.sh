@@ -6,7 +6,7 @@
 #   tests/run.sh [LIBRARY]     LIBRARY: another archive or shared library with the calls of include/busplan.h, which is
 #                              then not installed
 #
-# SEED (default 1), CALLS (default 2000000) and TEXTS (default 1000000) set the random calls and texts.
+# SEED (default 1), CALLS (default 3000000) and TEXTS (default 1000000) set the random calls and texts.
 set -e
 "$(dirname "$0")/header.sh"
 . "$(dirname "$0")/library.sh"
@@ -28,5 +28,5 @@ tests/console.sh "$library"
 if [ -z "$1" ]; then tests/install.sh; fi
 "$out/stack"
 "$out/threads"
-"$out/differential" "${SEED:-1}" "${CALLS:-2000000}"
+"$out/differential" "${SEED:-1}" "${CALLS:-3000000}"
 "$out/notation" "${SEED:-1}" "${TEXTS:-1000000}"

@@ -49,6 +49,12 @@ int64_t solver_lead_in_check(const uint8_t *catalogue, size_t catalogue_size, co
                              uint8_t *area0, size_t area0_size, uint8_t *area1, size_t area1_size);
 int64_t solver_fault(const uint8_t *catalogue, size_t catalogue_size, const uint8_t *v, size_t v_size,
                      const uint8_t *w, size_t w_size, const uint8_t *u, size_t u_size, uint64_t fault[2]);
+int64_t solver_slots(const uint8_t *catalogue, size_t catalogue_size, const uint8_t *plan, size_t plan_size,
+                     uint8_t *area, size_t area_size, uint16_t *slots, size_t slots_size, uint64_t in_use[1]);
+int64_t solver_precedence(const uint8_t *catalogue, size_t catalogue_size, const uint8_t *plan, size_t plan_size,
+                          const uint16_t *places, size_t places_size);
+int64_t solver_precedence_fault(const uint8_t *catalogue, size_t catalogue_size, const uint8_t *plan, size_t plan_size,
+                                const uint16_t *places, size_t places_size, uint64_t fault[2]);
 
 /* solver_loops, which where it gives 0 or more also counts the rounds: the most that a part of either core takes. */
 int64_t solver_loops_rounds(const uint8_t *catalogue, size_t catalogue_size, const uint8_t *v, size_t v_size,

@@ -16,15 +16,16 @@ enum { STACK = 1 << 23, PAGE = 1 << 12, PAINT = 0xA5, ROUNDS = 1000 };
 
 static const size_t promised[CALLS] = {BUSPLAN_NORMAL_FORM_STACK, BUSPLAN_CORE_STACK, BUSPLAN_EQUAL_STACK,
                                        BUSPLAN_LOOPS_STACK, BUSPLAN_LEAD_IN_CHECK_STACK, BUSPLAN_FAULT_STACK,
+                                       BUSPLAN_SLOTS_STACK, BUSPLAN_PRECEDENCE_STACK, BUSPLAN_PRECEDENCE_FAULT_STACK,
                                        BUSPLAN_WRITE_OUT_STACK, BUSPLAN_TEXT_FAULT_STACK};
 
 static uint8_t *stack, *lowest, *start;
-static struct bytes catalogue, v, w, u;
+static struct bytes catalogue, v, w, u, places;
 static struct question question;
 static int64_t answer;
 
-/* The most that a call used so far, and the sizes of the catalogue and of the plans, or of the text, that it was first
- * used with. */
+/* The most that a call used so far, and the sizes of the catalogue and of the plans, of the plan and its places or of
+ * the text, that it was first used with. */
 static struct {
     size_t used, size[4];
 } most[CALLS];
@@ -57,8 +58,9 @@ static void prepare(void) {
 }
 
 static void ask(void) {
-    static _Alignas(uint64_t) uint8_t space[2][MOST_LETTERS];
-    struct area area[2] = {{space[0], room(&question, 0)}, {space[1], room(&question, 1)}};
+    static _Alignas(uint64_t) uint8_t space[MOST_AREAS][MOST_LETTERS];
+    struct area area[MOST_AREAS];
+    for (unsigned i = 0; i < MOST_AREAS; i++) area[i] = (struct area){space[i], room(&question, i)};
     start = __builtin_frame_address(0);
     answer = ask_library(&question, area);
 }
@@ -82,6 +84,7 @@ static struct slice of(const struct bytes *bytes) { return (struct slice){bytes-
 /* Asks first on the stack that is there, so that what is found or bound once is so before the measurement. */
 static void measure(enum call call) {
     question = (struct question){call, of(&catalogue), {of(&v), of(&w), of(&u)}};
+    if (call >= PLAN_CALLS) question.plan[1] = of(&places);
     ask();
     int64_t before = answer;
     size_t used = stack_used();
@@ -93,6 +96,22 @@ static void measure(enum call call) {
 }
 
 /* ---- What is asked */
+
+/* Every call on these plans and, of those that take places, on some in the normal form of the first. */
+static void measure_plans(void) {
+    struct conflicts k;
+    struct word normal;
+    uint64_t fault[2];
+    places.size = normal.size = 0;
+    if (solver_fault(catalogue.at, catalogue.size, v.at, v.size, NULL, 0, NULL, 0, fault) == 0) {
+        solver_catalogue(catalogue.at, catalogue.size, &k);
+        solver_word(v.at, v.size, &normal);
+        solver_normal(&k, &normal);
+        random_places(&k, &normal, &places);
+    }
+    if (chance(20)) damage_places(normal.size, &places);
+    for (unsigned call = 0; call < TEXT_CALLS; call++) measure((enum call)call);
+}
 
 /* Under a catalogue in which each command conflicts with the next: a run of 1 and then each other command once, upwards
  * and downwards, as far as size goes. No loops take longer to settle. The lead-in has size letters. */
@@ -113,7 +132,7 @@ static void ask_settling(unsigned commands, size_t size) {
     }
     u.size = size;
     memset(u.at, 1, size);
-    for (unsigned call = 0; call < PLAN_CALLS; call++) measure((enum call)call);
+    measure_plans();
 }
 
 /* Plans of any kind and size, joined and not, and now and then a long lead-in. */
@@ -128,7 +147,7 @@ static void ask_random(void) {
     if (chance(5)) lengthen_lead_in(&v, &w, &u);
     if (chance(10)) long_settling(&catalogue, &v, &w);
     if (chance(10)) damage_catalogue(&catalogue);
-    for (unsigned call = 0; call < PLAN_CALLS; call++) measure((enum call)call);
+    measure_plans();
 }
 
 /* A text in the place of plan 1, of any kind and size, now and then damaged. */
@@ -137,7 +156,7 @@ static void ask_random_text(void) {
     random_text(catalogue.at[0], &v);
     if (chance(2)) lengthen_text(&v);
     if (chance(20)) damage_text(&v);
-    for (unsigned call = PLAN_CALLS; call < CALLS; call++) measure((enum call)call);
+    for (unsigned call = TEXT_CALLS; call < CALLS; call++) measure((enum call)call);
 }
 
 /* The same with so many brackets in one another, a minus before each, around a command. */
@@ -149,7 +168,7 @@ static void ask_nest(size_t depth) {
         memcpy(v.at + 2 * depth + 1 + 2 * i, ")1", 2);
     }
     v.at[2 * depth] = '1';
-    for (unsigned call = PLAN_CALLS; call < CALLS; call++) measure((enum call)call);
+    for (unsigned call = TEXT_CALLS; call < CALLS; call++) measure((enum call)call);
 }
 
 int main(void) {
@@ -165,9 +184,10 @@ int main(void) {
     for (unsigned call = 0; call < CALLS; call++) {
         const size_t *size = most[call].size;
         question.call = (enum call)call;
-        printf("stack: %-13s %6zu bytes of %6zu, first with a catalogue of %zu bytes and ", call_name[call],
+        printf("stack: %-16s %6zu bytes of %6zu, first with a catalogue of %zu bytes and ", call_name[call],
                most[call].used, promised[call], size[0]);
         if (call < PLAN_CALLS) printf("plans of %zu, %zu, %zu\n", size[1], size[2], size[3]);
+        else if (call < TEXT_CALLS) printf("a plan of %zu and %zu places\n", size[1], size[2] / sizeof(uint16_t));
         else printf("a text of %zu\n", size[1]);
         if (most[call].used > promised[call]) fail("that is more than busplan.h says");
         if (promised[call] > BUSPLAN_STACK) fail("busplan.h says more than BUSPLAN_STACK");

@@ -1,4 +1,4 @@
-/* Random catalogues, plans and lead-ins; see supply.h. */
+/* Random catalogues, plans, lead-ins and lists of places; see supply.h. */
 #include "supply.h"
 
 #include <string.h>
@@ -338,5 +338,77 @@ void damage_plan(const struct conflicts *k, struct bytes *plan, size_t most) {
     case 1: plan->at[place] = (uint8_t)(k->commands + 1); break;
     case 2: plan->at[place] = (uint8_t)(129 + k->commands); break;
     default: plan->at[place] = (uint8_t)(k->commands + 1 + below(128 - k->commands)) | (chance(50) ? 128 : 0); break;
+    }
+}
+
+/* ---- Lists of places */
+
+enum { MOST_PLACES = MOST_LETTERS / sizeof(uint16_t) };
+
+static size_t places_in(const struct bytes *places) { return places->size / sizeof(uint16_t); }
+
+static void set_place(struct bytes *places, size_t number, size_t place) {
+    uint16_t stored = (uint16_t)place;
+    memcpy(places->at + number * sizeof stored, &stored, sizeof stored);
+}
+
+static void add_place(struct bytes *places, size_t place) {
+    if (places_in(places) == MOST_PLACES) return;
+    set_place(places, places_in(places), place);
+    places->size += sizeof(uint16_t);
+}
+
+/* A later letter that conflicts with the one at a place; that place itself if there is none. */
+static size_t later_conflict(const struct conflicts *k, const struct word *w, size_t place) {
+    size_t found = place, most = below(4);
+    for (size_t i = place + 1; i < w->size && most < 4; i++)
+        if (conflict(k, w->letter[place], w->letter[i])) found = i, most--;
+    return found;
+}
+
+/* A pair that a chain leads through, if one is met with soon. */
+static void add_led(const struct conflicts *k, const struct word *w, struct bytes *places) {
+    size_t from = 0, to = 0;
+    for (unsigned tries = 0; tries < 8 && from == to; tries++) {
+        from = to = below(w->size);
+        do to = later_conflict(k, w, to);
+        while (chance(60));
+    }
+    add_place(places, from);
+    add_place(places, from == to ? (from + 1) % w->size : to);
+}
+
+static void add_any(const struct word *w, struct bytes *places) {
+    size_t from = below(w->size), to = (from + 1 + below(w->size - 1)) % w->size;
+    bool upwards = chance(70);
+    add_place(places, upwards && from > to ? to : from);
+    add_place(places, upwards && from > to ? from : to);
+}
+
+void random_places(const struct conflicts *k, const struct word *w, struct bytes *places) {
+    size_t pairs = chance(5) ? 0 : 1 + below(chance(70) ? 3 : 24);
+    unsigned led = chance(40) ? 100 : chance(50) ? 90 : 0;
+    if (w->size < 40 && below(300) == 0) pairs = below(MOST_PLACES / 2);
+    places->size = 0;
+    for (size_t i = 0; i < pairs && w->size > 1; i++) {
+        if (chance(led)) add_led(k, w, places);
+        else add_any(w, places);
+    }
+}
+
+void damage_places(size_t letters, struct bytes *places) {
+    size_t size = places_in(places), number = chance(30) && size > 0 ? size - 1 : below(size);
+    uint16_t other;
+    switch (size == 0 ? 0 : below(6)) {
+    case 0: add_place(places, below(letters + 2)); break;
+    case 1: places->size -= sizeof(uint16_t); break;
+    case 2: set_place(places, number, letters); break;
+    case 3: set_place(places, number, letters + below(65536 - letters)); break;
+    case 4: set_place(places, number, below(65536)); break;
+    default:
+        if (size < 2) break;
+        memcpy(&other, places->at + (number ^ 1) % size * sizeof other, sizeof other);
+        set_place(places, number, other);
+        break;
     }
 }

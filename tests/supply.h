@@ -1,4 +1,4 @@
-/* Random catalogues, plans and lead-ins, right and damaged, from one seed. */
+/* Random catalogues, plans, lead-ins and lists of places, right and damaged, from one seed. */
 #ifndef SUPPLY_H
 #define SUPPLY_H
 
@@ -32,5 +32,11 @@ void long_settling(struct bytes *catalogue, struct bytes *v, struct bytes *w);
 
 /* Makes a plan too long for line 7, or gives it a byte that line 8 refuses. */
 void damage_plan(const struct conflicts *k, struct bytes *plan, size_t most);
+
+/* A list of places in a word, two by two, as 16-bit numbers: often such that a chain of conflicting letters leads from
+ * the first of each pair, or of most, to the second, and now and then with many pairs. One damage to a list for a word
+ * of so many letters: a number too many or too few, a place past the word, or the same place twice. */
+void random_places(const struct conflicts *k, const struct word *w, struct bytes *places);
+void damage_places(size_t letters, struct bytes *places);
 
 #endif

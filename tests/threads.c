@@ -10,11 +10,11 @@
 #include <string.h>
 
 /* THREAD_STACK is for what a thread itself needs beside a call. */
-enum { THREADS = 4, QUESTIONS = 600, MOST_AREA = 1 << 16, THREAD_STACK = 1 << 14 };
+enum { THREADS = 4, QUESTIONS = 880, MOST_AREA = 1 << 16, THREAD_STACK = 1 << 14 };
 
 struct task {
     struct question question;
-    struct area expected[2];
+    struct area expected[MOST_AREAS];
     int64_t answer;
 };
 
@@ -35,8 +35,18 @@ static struct slice keep(const struct bytes *from) {
     return (struct slice){memcpy(new_bytes(from->size), from->at, from->size), from->size};
 }
 
+/* Places in the normal form of a plan, damaged or not. */
+static void draw_places(const struct conflicts *k, const struct bytes *v, bool damaged, struct bytes *places) {
+    static struct word normal;
+    solver_word(v->at, v->size, &normal);
+    solver_normal(k, &normal);
+    random_places(k, &normal, places);
+    if (damaged) damage_places(normal.size, places);
+}
+
 /* A random question; every tenth has long plans and a lead-in that is long too, and every seventh a damaged plan. A
- * call that takes a text gets one in the place of plan 1, which is long or damaged as often. */
+ * call that takes places gets some in the place of plan 2, damaged as often, and a call that takes a text gets one in
+ * the place of plan 1, which is long or damaged as often. */
 static struct question draw_question(size_t number) {
     static struct bytes catalogue, v, w, u;
     struct conflicts k;
@@ -49,7 +59,8 @@ static struct question draw_question(size_t number) {
     joined_plan(&k, &v, &w, &u);
     if (large) lengthen_lead_in(&v, &w, &u);
     if (number % 7 == 0) damage_plan(&k, &w, MOST_PLAN);
-    if (call >= PLAN_CALLS) {
+    if (call >= PLAN_CALLS && call < TEXT_CALLS) draw_places(&k, &v, number % 7 == 0, &w);
+    if (call >= TEXT_CALLS) {
         random_text(k.commands, &v);
         if (large) lengthen_text(&v);
         if (number % 7 == 0) damage_text(&v);
@@ -72,12 +83,15 @@ static void ask_alone(void) {
 /* Puts every question once, beginning at another place in each thread. Returns NULL if all is as it was. */
 static void *ask_all(void *number) {
     size_t first = *(size_t *)number * (QUESTIONS / THREADS);
-    uint8_t *bytes[2] = {new_bytes(MOST_AREA), new_bytes(MOST_AREA)};
+    uint8_t *bytes[MOST_AREAS] = {new_bytes(MOST_AREA), new_bytes(MOST_AREA), new_bytes(MOST_AREA)};
     bool same = true;
     for (size_t i = 0; i < QUESTIONS && same; i++) {
         const struct task *t = &task[(first + i) % QUESTIONS];
-        struct area area[2] = {{bytes[0], t->expected[0].size}, {bytes[1], t->expected[1].size}};
-        for (unsigned j = 0; j < 2; j++) memset(bytes[j], 0, area[j].size);
+        struct area area[MOST_AREAS];
+        for (unsigned j = 0; j < MOST_AREAS; j++) {
+            area[j] = (struct area){bytes[j], t->expected[j].size};
+            memset(bytes[j], 0, area[j].size);
+        }
         same = ask_library(&t->question, area) == t->answer;
         for (unsigned j = 0; j < areas_of[t->question.call]; j++)
             same = same && memcmp(bytes[j], t->expected[j].at, area[j].size) == 0;
