@@ -1,10 +1,11 @@
 /* A console for bus plans. It reads lines from standard input, as the list below says, and answers on standard output.
  * Plans are typed in the beacon team's notation, and the library reads them.
  *
- * A mistake is reported on standard error with its line number, and one in a plan with its column. Nothing of its line
- * is taken, and the exit status will be 1. After a mistake in a line that gives, or may have been meant to give, a part
- * of the catalogue, no question is answered until a corrected line has come: a good commands line, or a good conflicts
- * line that names all commands that the bad one names and after which all pairs hold that can be read in it.
+ * A mistake is reported on standard error with its line number, and one in a plan or in places with its column. Nothing
+ * of its line is taken, and the exit status will be 1. After a mistake in a line that gives, or may have been meant to
+ * give, a part of the catalogue, no question is answered until a corrected line has come: a good commands line, or a
+ * good conflicts line that names all commands that the bad one names and after which all pairs hold that can be read in
+ * it.
  *
  * Build, after `rt staticlib busplan`, from the repository's root:
  *   gcc -O2 -Iinclude examples/console.c target/staticlib/libbusplan.a -o target/console
@@ -28,6 +29,8 @@ static const char help_text[] =
     "plan (1 -2)3            a plan written out, here 1 -2 1 -2 1 -2\n"
     "normal 1 3 -1           the normal form of a plan\n"
     "core 1 2 -1             the core of a plan\n"
+    "slots 1 3 2 4           the slots of a plan's normal form: which letters can go out together\n"
+    "precedence 1 2 3 / 0 2  does the letter at place 0 of the normal form stay before the letter at place 2?\n"
     "equal (1 3)2 / 3 3 1 1  do two plans have the same effect?\n"
     "loops 1 2 / 2 1         are two loops joined, and by which lead-in?\n"
     "check 1 2 / 2 1 / 1     is the third plan a lead-in from the first loop to the second?\n"
@@ -37,6 +40,7 @@ static const char help_text[] =
     "taken 3 times, 0 to 255, and (1 -2) once; -(1 2)3 undoes all of it. Groups nest up to 8 deep. Commas, tabs and\n"
     "the filler 0 are no part of a plan. Written out, a plan has at most 1,024 commands, and a lead-in too.\n"
     "/ stands between plans. Blanks and commas separate pairs, and a pair is two numbers and a dash.\n"
+    "Places count from 0 and are taken two by two, with / before them, blanks between them and commas between pairs.\n"
     "No number has a leading zero. # starts a comment.\n";
 
 #define BLANKS " \t"
@@ -107,17 +111,17 @@ static bool ended(const char *rest) {
     return !next_word(&rest, BLANKS, &word) || complain("words after the last argument: %s", shown(word));
 }
 
-/* No catalogue has a command of this number. */
-enum { NO_COMMAND = 127 };
+/* No catalogue has a command of this number, and no normal form a place of that. */
+enum { NO_COMMAND = 127, NO_PLACE = 65535 };
 
 /* Takes a number off the front of a word: decimal digits with no leading zero. However many digits it has, one above
- * NO_COMMAND counts as NO_COMMAND. */
-static bool take_number(struct word *word, unsigned *number) {
+ * most counts as most. */
+static bool take_number(struct word *word, unsigned most, unsigned *number) {
     size_t digits = 0;
     *number = 0;
     for (; digits < word->size && word->at[digits] >= '0' && word->at[digits] <= '9'; digits++) {
         *number = 10 * *number + (unsigned)(word->at[digits] - '0');
-        if (*number > NO_COMMAND) *number = NO_COMMAND;
+        if (*number > most) *number = most;
     }
     bool leading_zero = digits > 1 && word->at[0] == '0';
     word->at += digits;
@@ -144,7 +148,8 @@ static size_t catalogue_size; /* 0 until a commands line has come */
 /* Reads a pair of commands up to most: exactly two numbers and a dash. The smaller command goes to *a. */
 static bool read_pair(struct word word, unsigned most, unsigned *a, unsigned *b) {
     unsigned x, y;
-    if (!take_number(&word, &x) || !take_dash(&word) || !take_number(&word, &y) || word.size > 0) return false;
+    if (!take_number(&word, NO_COMMAND, &x) || !take_dash(&word) || !take_number(&word, NO_COMMAND, &y)) return false;
+    if (word.size > 0) return false;
     *a = x < y ? x : y;
     *b = x < y ? y : x;
     return *a >= 1 && *a < *b && *b <= most;
@@ -226,8 +231,9 @@ static uint32_t named_in_pairs(const char *rest) {
     uint32_t names = 0;
     while (next_word(&rest, SEPARATORS, &word)) {
         struct word left = word;
-        unsigned number;
-        if (take_number(&left, &number) && take_dash(&left) && take_number(&left, &number)) names |= named(word);
+        unsigned x, y;
+        if (take_number(&left, NO_COMMAND, &x) && take_dash(&left) && take_number(&left, NO_COMMAND, &y))
+            names |= named(word);
     }
     return names;
 }
@@ -342,7 +348,7 @@ static bool take_commands(const char *rest) {
     unsigned number;
     if (!next_word(&rest, BLANKS, &word)) return complain("commands takes the number of commands, 0 to 24");
     struct word left = word;
-    if (!take_number(&left, &number) || left.size > 0 || number > BUSPLAN_MAX_COMMANDS)
+    if (!take_number(&left, NO_COMMAND, &number) || left.size > 0 || number > BUSPLAN_MAX_COMMANDS)
         return complain("not a number of commands, 0 to 24: %s", shown(word));
     if (!ended(rest)) return false;
     if (catalogue_size > 0) printf("conflicts cleared: %u\n", count_pairs(false));
@@ -403,20 +409,34 @@ static const char *plan_name(unsigned plans, unsigned number) {
     return plans == 1 ? "the plan" : names[number];
 }
 
-/* Finds as many plans as a question takes, with / between them; false after a message. */
-static bool find_plans(const char *verb, unsigned plans, const char *rest) {
+/* Places in the normal form of a plan: as typed, and as numbers. Of two bytes of a line at most one begins a number. */
+static struct {
+    const char *typed;
+    uint16_t at[MOST_LINE / 2];
+    size_t size;
+} places;
+
+/* Finds as many plans as a question takes, with / between them, and the places behind them if it takes some; false
+ * after a message. */
+static bool find_plans(const char *verb, unsigned plans, bool takes_places, const char *rest) {
     static const char *const wanted[] = {"one plan", "two plans, with / between them",
                                          "three plans, with / between them"};
     unsigned found = 1;
     rest += strspn(rest, BLANKS);
     for (const char *c = rest; *c != '\0'; c++) found += *c == '/';
-    if (found != plans) return complain("%s takes %s", verb, wanted[plans - 1]);
+    if (found != plans + takes_places)
+        return complain("%s takes %s", verb,
+                        takes_places ? "a plan and places of its normal form, with / between them" : wanted[plans - 1]);
     for (unsigned i = 0; i < plans; i++) {
         plan[i].typed = (struct word){rest, strcspn(rest, "/")};
         rest += plan[i].typed.size + 1;
     }
+    places.typed = takes_places ? rest : "";
     return true;
 }
+
+/* The column of a byte of the line. */
+static size_t column_of(const char *at) { return (size_t)(at - text) + 1; }
 
 static bool is_digit(char c) { return c >= '0' && c <= '9'; }
 
@@ -447,7 +467,7 @@ static struct word word_at(struct word typed, size_t place) {
 static unsigned number_at(struct word typed, size_t place) {
     struct word left = {typed.at + place, typed.size - place};
     unsigned number;
-    take_number(&left, &number);
+    take_number(&left, NO_COMMAND, &number);
     return number;
 }
 
@@ -455,7 +475,7 @@ static unsigned number_at(struct word typed, size_t place) {
 static bool explain(const char *name, struct word typed) {
     uint64_t fault[2] = {0, 0};
     int64_t reason = busplan_text_fault(catalogue, catalogue_size, (const uint8_t *)typed.at, typed.size, fault);
-    size_t place = (size_t)fault[1], column = (size_t)(typed.at - text) + place + 1;
+    size_t place = (size_t)fault[1], column = column_of(typed.at + place);
     struct word word = word_at(typed, place);
     if (reason == -BUSPLAN_TEXT)
         return complain("%s, column %zu: %s%s%s", name, column, wrong_at(typed, place), word.size > 0 ? ": " : "",
@@ -469,9 +489,35 @@ static bool explain(const char *name, struct word typed) {
     return complain("%s", busplan_refusal_text(reason));
 }
 
+/* Whether a comma stands between two words of the places, or at an end, where none may; true after a message. One may
+ * stand between two pairs. */
+static bool stray_comma(const char *from, const char *to) {
+    bool between = places.size > 0 && places.size % 2 == 0 && *to;
+    const char *comma = memchr(from, ',', (size_t)(to - from));
+    if (comma && between) comma = memchr(comma + 1, ',', (size_t)(to - comma - 1));
+    if (comma) complain("the places, column %zu: a comma that does not stand between two pairs", column_of(comma));
+    return comma;
+}
+
+/* Reads the places of a question; false after a message. */
+static bool read_places(void) {
+    const char *rest = places.typed, *before = rest;
+    struct word word;
+    for (places.size = 0; next_word(&rest, SEPARATORS, &word); before = rest) {
+        struct word left = word;
+        unsigned number;
+        if (stray_comma(before, word.at)) return false;
+        if (!take_number(&left, NO_PLACE, &number) || left.size > 0)
+            return complain("the places, column %zu: a place is a number from 0, with no leading zero: %s",
+                            column_of(word.at), shown(word));
+        places.at[places.size++] = (uint16_t)number;
+    }
+    return !stray_comma(before, before + strlen(before));
+}
+
 /* Reads the plans of a question; false after a message. */
-static bool read_plans(const char *verb, unsigned plans, const char *rest) {
-    if (!find_plans(verb, plans, rest)) return false;
+static bool read_plans(const char *verb, unsigned plans, bool takes_places, const char *rest) {
+    if (!find_plans(verb, plans, takes_places, rest)) return false;
     for (unsigned i = 0; i < plans; i++) {
         struct plan *p = &plan[i];
         int64_t size = busplan_write_out(catalogue, catalogue_size, (const uint8_t *)p->typed.at, p->typed.size,
@@ -479,12 +525,15 @@ static bool read_plans(const char *verb, unsigned plans, const char *rest) {
         if (size < 0) return explain(plan_name(plans, i), p->typed);
         p->size = (size_t)size;
     }
-    return true;
+    return read_places();
 }
+
+/* A letter as it is typed: a command, or minus one for its undo. */
+static int typed_as(uint8_t letter) { return letter > 128 ? 128 - letter : letter; }
 
 static void print_plan(const char *what, const uint8_t *letter, size_t size) {
     printf("%s:%s", what, size == 0 ? " (empty)" : "");
-    for (size_t i = 0; i < size; i++) printf(" %d", letter[i] > 128 ? 128 - letter[i] : letter[i]);
+    for (size_t i = 0; i < size; i++) printf(" %d", typed_as(letter[i]));
     putchar('\n');
 }
 
@@ -507,6 +556,69 @@ static int64_t ask_core(void) {
     int64_t answer = busplan_core(catalogue, catalogue_size, plan[0].at, plan[0].size, area[0], sizeof area[0]);
     if (answer >= 0) print_plan("core", area[0], (size_t)answer);
     return answer;
+}
+
+/* Prints the letters slot by slot. */
+static int64_t ask_slots(void) {
+    static uint16_t slots[BUSPLAN_MAX_SLOTS_ROOM];
+    uint64_t in_use[1];
+    int64_t answer = busplan_slots(catalogue, catalogue_size, plan[0].at, plan[0].size, area[0], sizeof area[0],
+                                   slots, BUSPLAN_MAX_SLOTS_ROOM, in_use);
+    if (answer < 0) return answer;
+    print_plan("normal form", area[0], (size_t)answer);
+    printf("slots in use: %u\n", (unsigned)in_use[0]);
+    for (unsigned slot = 0; slot < in_use[0]; slot++) {
+        printf("  slot %u:", slot);
+        for (size_t i = 0; i < (size_t)answer; i++)
+            if (slots[i] == slot) printf(" %d", typed_as(area[0][i]));
+        putchar('\n');
+    }
+    return answer;
+}
+
+static int64_t precedence(const uint16_t *at, size_t size) {
+    return busplan_precedence(catalogue, catalogue_size, plan[0].at, plan[0].size, at, size);
+}
+
+/* The library says yes or no of all pairs together. Which of them it is that do not stay is asked pair by pair. */
+static int64_t ask_precedence(void) {
+    int64_t answer = precedence(places.at, places.size);
+    if (answer < 0) return answer;
+    print_normal_form("normal form", &plan[0]);
+    if (answer == 1) puts(places.size > 0 ? "yes, in every arrangement" : "yes, since no places are given");
+    if (answer == 0) puts("no, not in every arrangement");
+    for (const uint16_t *pair = places.at; answer == 0 && pair < places.at + places.size; pair += 2)
+        if (precedence(pair, 2) == 0)
+            printf("  %d at place %u does not stay before %d at place %u\n", typed_as(area[0][pair[0]]), pair[0],
+                   typed_as(area[0][pair[1]]), pair[1]);
+    return answer;
+}
+
+/* Which places a normal form has. */
+static const char *places_of(int64_t length) {
+    static char buffer[64];
+    if (length == 0) return "is empty, and has no place";
+    if (length == 1) return "has the place 0 alone";
+    snprintf(buffer, sizeof buffer, "has the places 0 to %d", (int)length - 1);
+    return buffer;
+}
+
+/* Says in the planner's words why the library refused the places. */
+static bool explain_places(void) {
+    uint64_t fault[2] = {0, 0};
+    const char *rest = places.typed;
+    struct word word, second;
+    int64_t length = busplan_normal_form(catalogue, catalogue_size, plan[0].at, plan[0].size, area[0], sizeof area[0]);
+    busplan_precedence_fault(catalogue, catalogue_size, plan[0].at, plan[0].size, places.at, places.size, fault);
+    const uint16_t *pair = places.at + 2 * fault[1];
+    for (uint64_t i = 0; i <= 2 * fault[1]; i++) next_word(&rest, SEPARATORS, &word);
+    if (!next_word(&rest, SEPARATORS, &second))
+        return complain("the places, column %zu: a place without a second one: %s", column_of(word.at), shown(word));
+    if (pair[0] < length) word = second;
+    if (pair[0] < length && pair[1] < length)
+        return complain("the places, column %zu: the same place twice: %s", column_of(word.at), shown(word));
+    return complain("the places, column %zu: the normal form %s: %s", column_of(word.at), places_of(length),
+                    shown(word));
 }
 
 static int64_t ask_equal(void) {
@@ -557,25 +669,28 @@ static bool quit(const char *rest) {
 }
 
 /* A first word, what part of the catalogue its line gives, and the function that obeys the line and is false after a
- * mistake; for a question the number of its plans and the function that asks it. */
+ * mistake; for a question the number of its plans, whether it takes places, and the function that asks it. */
 static const struct verb {
     const char *name;
     enum part part;
     bool (*obey)(const char *rest);
     unsigned plans;
+    bool places;
     int64_t (*ask)(void);
 } verbs[] = {
-    {"commands", COMMANDS, take_commands, 0, NULL},
-    {"conflicts", CONFLICTS, take_conflicts, 0, NULL},
-    {"catalogue", NEITHER, show_catalogue, 0, NULL},
-    {"help", NEITHER, help, 0, NULL},
-    {"quit", NEITHER, quit, 0, NULL},
-    {"plan", NEITHER, NULL, 1, ask_plan},
-    {"normal", NEITHER, NULL, 1, ask_normal},
-    {"core", NEITHER, NULL, 1, ask_core},
-    {"equal", NEITHER, NULL, 2, ask_equal},
-    {"loops", NEITHER, NULL, 2, ask_loops},
-    {"check", NEITHER, NULL, 3, ask_check},
+    {"commands", COMMANDS, take_commands, 0, false, NULL},
+    {"conflicts", CONFLICTS, take_conflicts, 0, false, NULL},
+    {"catalogue", NEITHER, show_catalogue, 0, false, NULL},
+    {"help", NEITHER, help, 0, false, NULL},
+    {"quit", NEITHER, quit, 0, false, NULL},
+    {"plan", NEITHER, NULL, 1, false, ask_plan},
+    {"normal", NEITHER, NULL, 1, false, ask_normal},
+    {"core", NEITHER, NULL, 1, false, ask_core},
+    {"slots", NEITHER, NULL, 1, false, ask_slots},
+    {"precedence", NEITHER, NULL, 1, true, ask_precedence},
+    {"equal", NEITHER, NULL, 2, false, ask_equal},
+    {"loops", NEITHER, NULL, 2, false, ask_loops},
+    {"check", NEITHER, NULL, 3, false, ask_check},
 };
 
 static const struct verb *find_verb(struct word word) {
@@ -587,8 +702,9 @@ static const struct verb *find_verb(struct word word) {
 static bool obey_verb(const struct verb *verb, const char *rest) {
     if (verb->obey) return verb->obey(rest);
     if (hindrance()) return complain("not answered: %s", hindrance());
-    if (!read_plans(verb->name, verb->plans, rest)) return false;
+    if (!read_plans(verb->name, verb->plans, verb->places, rest)) return false;
     int64_t answer = verb->ask();
+    if (answer == -BUSPLAN_PLACES) return explain_places();
     return answer >= 0 || complain("%s", busplan_refusal_text(answer));
 }
 

@@ -151,6 +151,25 @@ line 3: the plan, column 1000006: 5 is no command of this catalogue
 line 4: the plan, column 1000007: no bracket is open: 2)
 "
 
+# Slots and places at their limits: as many slots as a plan can have, and as many places as a line can, of which the one
+# that is wrong is found by its column. Each of the places that do not stay is asked and told.
+printf 'commands 1\nslots ((1)16)64\n' | made slots_of_1024 "$(awk -v ones="${ones% }" 'BEGIN {
+  printf "normal form: %s\nslots in use: 1024\n", ones
+  for (slot = 0; slot < 1024; slot++) printf "  slot %d: 1\n", slot
+}')\n" ''
+pairs=$(repeat 260000 '0 1 ')
+printf 'commands 2\nconflicts 1-2\nprecedence 1 2/%s\nprecedence 1 2/%s0 2\nprecedence 1 2/%s1\n' \
+  "$pairs" "$pairs" "$pairs" | made precedence_of_a_million_bytes 'normal form: 1 2\nyes, in every arrangement\n' "\
+line 4: the places, column 1040018: the normal form has the places 0 to 1: 2
+line 5: the places, column 1040016: a place without a second one: 1
+"
+printf 'commands 2\nprecedence 1 2 / %s0 1\n' "$(repeat 999 '0 1,')" | made precedence_of_none "\
+normal form: 1 2\nno, not in every arrangement\n\
+$(repeat 1000 '  1 at place 0 does not stay before 2 at place 1\n')\n" ''
+printf 'commands 2\nprecedence ((1)16)64 / 0 1023\nprecedence ((1)16)64 / 0 1024\n' | made precedence_of_1024 \
+  "normal form: ${ones% }\nyes, in every arrangement\n" \
+  'line 3: the places, column 26: the normal form has the places 0 to 1023: 1024\n'
+
 # ---- Catalogues
 
 # A catalogue of 24 commands by the pairs that hold, for some seeds and shares in a hundred, with a question for each
@@ -296,7 +315,7 @@ fi
 awk -v seed="${SEED:-1}" -v mutants="${MUTANTS:-2000}" -v folder="$out/mutants" '
   function any(n) { return 1 + int(n * rand()) }
   function piece(  kind) {
-    kind = any(12)
+    kind = any(13)
     if (kind == 1) return sprintf("%c", any(256) - 1)
     if (kind == 2) return sprintf("%c", 0)
     if (kind == 3) return "\n"
@@ -305,6 +324,7 @@ awk -v seed="${SEED:-1}" -v mutants="${MUTANTS:-2000}" -v folder="$out/mutants" 
     if (kind == 6) return "\nconflicts " any(5) "-" any(5) "\n"
     if (kind == 7) return "\ncommands " any(26) "\n"
     if (kind == 8) return "\nplan -(" any(6) " (" any(6) ")" any(300) ")" any(9) "\n"
+    if (kind == 9) return "\nprecedence " any(4) " " any(4) "/" any(4) - 1 " " any(4) - 1 "\n"
     return substr(" \t,-/#;x\r\n0+()", any(14), 1)
   }
   function damage(text,  at, size) {
