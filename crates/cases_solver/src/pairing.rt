@@ -20,12 +20,12 @@ fn newest_tied(c: &[u8], left: &[u8], a: u8, i: usize) -> usize
     i
 }
 
-// Writes a place as number k, if there is room for it.
-fn write(numbers: &mut [u16], k: usize, place: usize)
-    requires { ⌜ place < 1024 ⌝ }
+// Writes a place or a slot as number k, if there is room for it.
+pub fn write(numbers: &mut [u16], k: usize, number: usize)
+    requires { ⌜ number < 1024 ⌝ }
 {
     if k < numbers.len() {
-        numbers[k] = place as u16;
+        numbers[k] = number as u16;
     }
 }
 

@@ -3,9 +3,11 @@
 // wrong.
 
 use crate::catalogue::walk;
+use crate::form::normal_form;
 use crate::word::Word;
 use crate::word::at;
 use crate::word::blank;
+use crate::word::number_at;
 use crate::word::with;
 
 pub fn refusal(number: u8, plan: u8, place: usize) -> Word {
@@ -105,13 +107,36 @@ fn small_area(room: usize, commands: usize, bytes: usize) -> Word {
     }
 }
 
-// Line 12, for a second area of so many numbers.
-fn small_second(numbers: usize, bytes: usize) -> Word {
+// Line 12, or 9 of the slots call, for a second area of so many numbers.
+fn small_second(line: u8, numbers: usize, bytes: usize) -> Word {
     if numbers < bytes {
-        refusal(12, 0, 1)
+        refusal(line, 0, 1)
     } else {
         blank()
     }
+}
+
+// Does pair k lack its second place, or name one past the letters, or the same place twice.
+fn wrong_pair(places: &[u16], k: usize, letters: usize) -> bool {
+    if places.len() / 2 <= k {
+        return true;
+    }
+    let i = number_at(places, 2 * k) as usize;
+    let j = number_at(places, 2 * k + 1) as usize;
+    letters <= i || letters <= j || i == j
+}
+
+// Line 16, for places in a normal form of so many letters.
+fn wrong_places(places: &[u16], letters: usize) -> Word {
+    let pairs = places.len() - places.len() / 2;
+    let mut k: usize = 0;
+    while k < pairs {
+        if wrong_pair(places, k, letters) {
+            return refusal(16, 0, k);
+        }
+        k += 1;
+    }
+    blank()
 }
 
 // Of a catalogue.
@@ -129,7 +154,24 @@ pub fn refusal_of_form(c: &[u8], plan: &[u8], room: usize) -> Word {
 pub fn refusal_of_normal_form(c: &[u8], plan: &[u8], room: usize, numbers: usize) -> Word {
     or(
         refusal_of_form(c, plan, room),
-        small_second(numbers, plan.len()),
+        small_second(12, numbers, plan.len()),
+    )
+}
+
+// Of the slots of a normal form, likewise.
+pub fn refusal_of_slots(c: &[u8], plan: &[u8], room: usize, numbers: usize) -> Word {
+    or(
+        refusal_of_form(c, plan, room),
+        small_second(9, numbers, plan.len()),
+    )
+}
+
+// Of a precedence check.
+pub fn refusal_of_precedence(c: &[u8], plan: &[u8], places: &[u16]) -> Word {
+    let letters = at(&normal_form(c, plan), 0) as usize;
+    or(
+        refusal_of_form(c, plan, plan.len()),
+        wrong_places(places, letters),
     )
 }
 

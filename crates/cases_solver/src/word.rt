@@ -15,6 +15,14 @@ pub fn at(bytes: &[u8], i: usize) -> u8 {
     0
 }
 
+// Number i of a list, and 0 past the end.
+pub fn number_at(numbers: &[u16], i: usize) -> u16 {
+    if i < numbers.len() {
+        return numbers[i];
+    }
+    0
+}
+
 // The word with the byte a at place i.
 pub fn with(word: Word, i: usize, a: u8) -> Word {
     let mut changed = word;
