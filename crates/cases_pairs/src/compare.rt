@@ -1,51 +1,18 @@
 // What the library says of a plan, beside what the solver says.
 
-ghost use mathlib.Core.Path.{_≡_};
 ghost use Prim.Native.Nat.{_≤_};
-ghost use lib.ListN.{length};
+use cases_report::Bytes;
 use cases_report::Numbers;
+use cases_report::area;
+use cases_report::bytes_kept;
 use cases_report::kept;
 use cases_report::refused;
+use cases_report::same_numbers;
 use cases_report::second_area;
 use cases_solver::at;
 use cases_solver::refusal_of_normal_form;
 use cases_solver::same;
 use spec::NormalForm;
-
-// An area to lend.
-type Bytes = [u8; 1100];
-
-// A byte that no letter is.
-const KEPT: u8 = 77;
-
-fn area() -> Bytes
-    ensures { λ r. ⌜ 1100 ≡ length r ⌝ }
-{
-    [KEPT; 1100]
-}
-
-// Have all bytes been kept but the first n.
-fn bytes_kept(area: &Bytes, n: usize) -> bool {
-    let mut i = n;
-    while i < 1100 {
-        if area[i] != KEPT {
-            return false;
-        }
-        i += 1;
-    }
-    true
-}
-
-fn same_numbers(v: &Numbers, w: &Numbers) -> bool {
-    let mut i: usize = 0;
-    while i < 1100 {
-        if v[i] != w[i] {
-            return false;
-        }
-        i += 1;
-    }
-    true
-}
 
 // A letter counts 1, a filler 0.
 fn letter(b: u8) -> usize

@@ -3,11 +3,19 @@
 // no, 2 for a yes that is not borne out; of two loops with the rounds behind it) or a refusal as the crate cases_solver
 // has it.
 
+mod areas;
 mod library;
 mod pairs;
 mod printing;
 mod solver;
 
+pub use areas::Bytes;
+pub use areas::Numbers;
+pub use areas::area;
+pub use areas::bytes_kept;
+pub use areas::kept;
+pub use areas::same_numbers;
+pub use areas::second_area;
 pub use library::checked;
 pub use library::compared;
 pub use library::formed;
@@ -18,9 +26,6 @@ pub use library::paired;
 pub use library::read;
 pub use library::refused;
 pub use library::written;
-pub use pairs::Numbers;
-pub use pairs::kept;
-pub use pairs::second_area;
 pub use printing::answers;
 pub use printing::byte;
 pub use printing::count;

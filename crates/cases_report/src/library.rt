@@ -1,8 +1,8 @@
 // What the library answers.
 
-use crate::pairs::Numbers;
+use crate::areas::Numbers;
+use crate::areas::kept;
 use crate::pairs::first_pairs;
-use crate::pairs::kept;
 use crate::pairs::marked;
 use crate::solver::settled;
 use crate::solver::verdict;

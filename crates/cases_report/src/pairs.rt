@@ -2,35 +2,10 @@
 // and that of the later, high byte first. At place 59 is a 1 if a number has changed that was to be kept.
 
 ghost use Prim.Native.Nat.{_<_};
-ghost use mathlib.Core.Path.{_≡_};
-ghost use lib.ListN.{length};
+use crate::areas::Numbers;
 use cases_solver::Word;
 use cases_solver::blank;
 use cases_solver::with;
-
-// A second area to lend.
-pub type Numbers = [u16; 1100];
-
-// A number that no place is.
-const KEPT: u16 = 7777;
-
-pub fn second_area() -> Numbers
-    ensures { λ r. ⌜ 1100 ≡ length r ⌝ }
-{
-    [KEPT; 1100]
-}
-
-// Have all numbers been kept but those of the first n pairs.
-pub fn kept(numbers: &Numbers, n: usize) -> bool {
-    let mut i: usize = 0;
-    while i < 1100 {
-        if i / 2 >= n && numbers[i] != KEPT {
-            return false;
-        }
-        i += 1;
-    }
-    true
-}
 
 // An answer, with whether all was kept that was to be.
 pub fn marked(answer: Word, kept: bool) -> Word {

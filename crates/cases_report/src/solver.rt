@@ -1,7 +1,7 @@
 // What the solver answers.
 
+use crate::areas::second_area;
 use crate::pairs::first_pairs;
-use crate::pairs::second_area;
 use cases_solver::Word;
 use cases_solver::at;
 use cases_solver::blank;

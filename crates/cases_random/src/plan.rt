@@ -1,21 +1,18 @@
 // Plans at random, with fillers, of which much is undone again.
 
+ghost use mathlib.Core.Path.{_≡_};
 ghost use Prim.Native.Nat.{_<_, _≤_};
+ghost use lib.ListN.{length};
 use crate::random::draw;
 use cases_solver::at;
 use cases_solver::undo;
 
 pub type Plan = [u8; 1100];
 
-// Most are short, some as long as a plan may be.
-pub fn size(state: &mut u32) -> usize
-    ensures { λ r. ⌜ r ≤ 1024 ⌝ }
+pub fn blank_plan() -> Plan
+    ensures { λ r. ⌜ 1100 ≡ length r ⌝ }
 {
-    match draw(state, 8) {
-        0 => 1024,
-        1 => draw(state, 1025),
-        _ => draw(state, 65),
-    }
+    [0; 1100]
 }
 
 // A letter of one of the first n commands, or a filler.
@@ -54,7 +51,7 @@ fn turned(state: &mut u32, turn: usize, i: usize) -> usize
 }
 
 // Writes a plan of so many bytes, with letters of the first n commands.
-pub fn fill(state: &mut u32, plan: &mut Plan, size: usize, n: usize)
+pub fn fill_plan(state: &mut u32, plan: &mut Plan, size: usize, n: usize)
     requires { ⌜ (0 < n) × (n ≤ 24) ⌝ }
     requires { ⌜ size ≤ 1024 ⌝ }
 {

@@ -2,13 +2,10 @@
 // are too small, each now and then.
 
 ghost use Prim.Native.Nat.{_≤_};
-use crate::catalogue::Catalogue;
-use crate::compare::agree;
-use crate::plan::Plan;
 use crate::random::draw;
 
 // One time in four, puts another byte, more often a small one, among the first n.
-fn harm(state: &mut u32, bytes: &mut [u8], n: usize)
+pub fn harm(state: &mut u32, bytes: &mut [u8], n: usize)
     requires { ⌜ n ≤ 1100 ⌝ }
 {
     let i = draw(state, n + 1);
@@ -20,7 +17,7 @@ fn harm(state: &mut u32, bytes: &mut [u8], n: usize)
 }
 
 // The size of a catalogue.
-fn catalogue_size(state: &mut u32, size: usize) -> usize
+pub fn catalogue_size(state: &mut u32, size: usize) -> usize
     requires { ⌜ size ≤ 536 ⌝ }
     ensures { λ r. ⌜ r ≤ 536 ⌝ }
 {
@@ -31,7 +28,7 @@ fn catalogue_size(state: &mut u32, size: usize) -> usize
 }
 
 // The size of a plan.
-fn plan_size(state: &mut u32, size: usize) -> usize
+pub fn plan_size(state: &mut u32, size: usize) -> usize
     requires { ⌜ size ≤ 1024 ⌝ }
     ensures { λ r. ⌜ r ≤ 1025 ⌝ }
 {
@@ -42,7 +39,7 @@ fn plan_size(state: &mut u32, size: usize) -> usize
 }
 
 // The size of an area for a plan of so many bytes.
-fn area_size(state: &mut u32, size: usize) -> usize
+pub fn area_size(state: &mut u32, size: usize) -> usize
     requires { ⌜ size ≤ 1025 ⌝ }
     ensures { λ r. ⌜ r ≤ 1100 ⌝ }
 {
@@ -50,19 +47,4 @@ fn area_size(state: &mut u32, size: usize) -> usize
         return draw(state, size + 1);
     }
     size
-}
-
-// Puts a catalogue and a plan of so many bytes, damaged, to library and solver: do they agree.
-pub fn put(state: &mut u32, catalogue: Catalogue, bytes: usize, plan: Plan, size: usize) -> bool
-    requires { ⌜ (bytes ≤ 536) × (size ≤ 1024) ⌝ }
-{
-    let mut c = catalogue;
-    let mut v = plan;
-    harm(state, &mut c, bytes);
-    harm(state, &mut v, size);
-    let n = catalogue_size(state, bytes);
-    let m = plan_size(state, size);
-    let first = area_size(state, m);
-    let second = area_size(state, m);
-    agree(&c[0..n], &v[0..m], first, second)
 }

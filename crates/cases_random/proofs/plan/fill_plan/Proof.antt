@@ -1,8 +1,8 @@
--- `fill` is safe and ends: the measure is `size - i`, the invariant `turn ≤ 1024`.
+-- `fill_plan` is safe and ends: the measure is `size - i`, the invariant `turn ≤ 1024`.
 use Prim.Native.Nat.{_-_, _≤_}
 use borrow.Author.Needs.{needs}
-use Rattle.cases_pairs.proofs.plan.fill.Statement.{statement}
-use Rattle.cases_pairs.proofs.plan.fill.Tie as tie
+use Rattle.cases_random.proofs.plan.fill_plan.Statement.{statement}
+use Rattle.cases_random.proofs.plan.fill_plan.Tie as tie
 
 abbrev Inv-loop : tie.InvT-loop
 Inv-loop state₀ plan₀ size n turn₀ i₀ state plan turn i = turn ≤ 1024
@@ -10,8 +10,8 @@ Inv-loop state₀ plan₀ size n turn₀ i₀ state plan turn i = turn ≤ 1024
 abbrev μ-loop : tie.MeasureT-loop
 μ-loop state₀ plan₀ size n turn₀ i₀ state plan turn i = size - i
 
-pub fill-spec : {M : Type 1} → statement M
-fill-spec =
+pub fill-plan-spec : {M : Type 1} → statement M
+fill-plan-spec =
     tie.close
     (tie.spec
     Inv-loop

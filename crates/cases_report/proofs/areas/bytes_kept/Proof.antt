@@ -1,8 +1,8 @@
 -- `bytes_kept` is safe and ends: the measure is `1100 - i`.
 use Prim.Native.Nat.{_-_}
 use borrow.Author.Needs.{needs}
-use Rattle.cases_pairs.proofs.compare.bytes_kept.Statement.{statement}
-use Rattle.cases_pairs.proofs.compare.bytes_kept.Tie as tie
+use Rattle.cases_report.proofs.areas.bytes_kept.Statement.{statement}
+use Rattle.cases_report.proofs.areas.bytes_kept.Tie as tie
 
 abbrev Inv-loop : tie.InvT-loop
 Inv-loop area n i₀ i = Unit {0}

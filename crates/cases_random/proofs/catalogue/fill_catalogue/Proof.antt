@@ -1,8 +1,8 @@
--- `fill` gives at most 536, and ends: the measure is `turns - turn`, the invariant `records ≤ turn ≤ turns`.
+-- `fill_catalogue` gives at most 536, and ends: the measure is `turns - turn`, the invariant `records ≤ turn ≤ turns`.
 use Prim.Native.Nat.{_-_, _≤_}
 use borrow.Author.Needs.{needs}
-use Rattle.cases_pairs.proofs.catalogue.fill.Statement.{statement}
-use Rattle.cases_pairs.proofs.catalogue.fill.Tie as tie
+use Rattle.cases_random.proofs.catalogue.fill_catalogue.Statement.{statement}
+use Rattle.cases_random.proofs.catalogue.fill_catalogue.Tie as tie
 
 abbrev Inv-loop : tie.InvT-loop
 Inv-loop state₀ c₀ n most turns records₀ turn₀ state c records turn = (records ≤ turn) × (turn ≤ turns)
@@ -10,8 +10,8 @@ Inv-loop state₀ c₀ n most turns records₀ turn₀ state c records turn = (r
 abbrev μ-loop : tie.MeasureT-loop
 μ-loop state₀ c₀ n most turns records₀ turn₀ state c records turn = turns - turn
 
-pub fill-spec : {M : Type 1} → statement M
-fill-spec =
+pub fill-catalogue-spec : {M : Type 1} → statement M
+fill-catalogue-spec =
     tie.close
     (tie.spec
     Inv-loop

@@ -8,6 +8,10 @@ use cases_solver::at;
 // As large as a catalogue can be.
 pub type Catalogue = [u8; 536];
 
+pub fn blank_catalogue() -> Catalogue {
+    [0; 536]
+}
+
 fn put(c: &mut Catalogue, i: usize, b: usize) {
     if i < 536 {
         c[i] = (b % 256) as u8;
@@ -42,7 +46,7 @@ fn grow(state: &mut u32, c: &mut Catalogue, n: usize, records: usize) -> usize
 }
 
 // Writes a catalogue of n commands, and gives the number of its bytes.
-pub fn fill(state: &mut u32, c: &mut Catalogue, n: usize) -> usize
+pub fn fill_catalogue(state: &mut u32, c: &mut Catalogue, n: usize) -> usize
     requires { ⌜ (0 < n) × (n ≤ 24) ⌝ }
     ensures { λ r. ⌜ r ≤ 536 ⌝ }
 {

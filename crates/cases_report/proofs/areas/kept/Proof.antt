@@ -1,8 +1,8 @@
 -- `kept` is safe and ends: the measure is `1100 - i`.
 use Prim.Native.Nat.{_-_}
 use borrow.Author.Needs.{needs}
-use Rattle.cases_report.proofs.pairs.kept.Statement.{statement}
-use Rattle.cases_report.proofs.pairs.kept.Tie as tie
+use Rattle.cases_report.proofs.areas.kept.Statement.{statement}
+use Rattle.cases_report.proofs.areas.kept.Tie as tie
 
 abbrev Inv-loop : tie.InvT-loop
 Inv-loop numbers n i₀ i = Unit {0}

@@ -1,8 +1,8 @@
 -- `draw` gives a number below `n`: a remainder is.
 use native.Mathlib.Nat.{mod-lt}
 use borrow.Author.Needs.{needs}
-use Rattle.cases_pairs.proofs.random.draw.Statement.{statement}
-use Rattle.cases_pairs.proofs.random.draw.Tie as tie
+use Rattle.cases_random.proofs.random.draw.Statement.{statement}
+use Rattle.cases_random.proofs.random.draw.Tie as tie
 
 returns : tie.Need-returns
 returns c = mod-lt _ (search needs)

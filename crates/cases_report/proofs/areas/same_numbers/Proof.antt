@@ -1,8 +1,8 @@
 -- `same_numbers` is safe and ends: the measure is `1100 - i`.
 use Prim.Native.Nat.{_-_}
 use borrow.Author.Needs.{needs}
-use Rattle.cases_pairs.proofs.compare.same_numbers.Statement.{statement}
-use Rattle.cases_pairs.proofs.compare.same_numbers.Tie as tie
+use Rattle.cases_report.proofs.areas.same_numbers.Statement.{statement}
+use Rattle.cases_report.proofs.areas.same_numbers.Tie as tie
 
 abbrev Inv-loop : tie.InvT-loop
 Inv-loop v w i₀ i = Unit {0}
