@@ -16,6 +16,7 @@ use spec::Fault;
 use spec::LeadIn;
 use spec::Loops;
 use spec::NormalForm;
+use spec::Precedence;
 use spec::Refusal;
 use spec::Written;
 
@@ -25,7 +26,7 @@ pub fn refused(refusal: Refusal) -> Word {
 }
 
 // The first letters of an area, behind their number.
-fn letters(area: &[u8], number: usize) -> Word {
+pub fn letters(area: &[u8], number: usize) -> Word {
     let mut word = with(blank(), 0, (number % 256) as u8);
     let mut i: usize = 0;
     while i < 62 && i < number {
@@ -105,6 +106,15 @@ pub fn checked(answer: LeadIn) -> Word {
         LeadIn::Yes(_) => verdict(1),
         LeadIn::No(_) => verdict(0),
         LeadIn::Refused(refusal) => refused(refusal),
+    }
+}
+
+// Of a precedence check.
+pub fn preceded(answer: Precedence) -> Word {
+    match answer {
+        Precedence::Yes => verdict(1),
+        Precedence::No => verdict(0),
+        Precedence::Refused(refusal) => refused(refusal),
     }
 }
 
