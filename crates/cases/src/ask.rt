@@ -7,8 +7,12 @@ use cases_report::formed;
 use cases_report::found;
 use cases_report::joined;
 use cases_report::paired;
+use cases_report::preceded;
 use cases_report::read;
 use cases_report::second_area;
+use cases_report::slotted;
+use cases_report::widened;
+use cases_report::width;
 use cases_report::written;
 use cases_solver::Word;
 use cases_solver::at;
@@ -52,6 +56,21 @@ fn pairs(c: &[u8], v: &[u8], area: &mut [u8], numbers: usize) -> Word
     paired(answer, &second)
 }
 
+// Its slots.
+fn slots(c: &[u8], v: &[u8], area: &mut [u8], numbers: usize) -> Word
+    requires { ⌜ numbers ≤ 1100 ⌝ }
+{
+    let mut second = second_area();
+    let answer = busplan::slots(c, v, area, &mut second[0..numbers]);
+    slotted(answer, area, &second)
+}
+
+// Whether its letters stay in the order of these places.
+fn precedence(c: &[u8], v: &[u8], places: &[u8]) -> Word {
+    let list = widened(places);
+    preceded(busplan::precedence(c, v, &list[0..width(places)]))
+}
+
 // The lead-in must be one.
 fn loops(c: &[u8], v: &[u8], w: &[u8], area: &mut [u8]) -> Word {
     let answer = busplan::loops(c, v, w, area);
@@ -80,6 +99,8 @@ pub fn asked(
         b'r' => conflict(c, v),
         b'n' => normal(c, v, area, numbers),
         b'p' => pairs(c, v, area, numbers),
+        b's' => slots(c, v, area, numbers),
+        b'o' => precedence(c, v, w),
         b'c' => written(busplan::core(c, v, area), area),
         b'e' => compared(busplan::equal(c, v, w)),
         b'l' => loops(c, v, w, area),

@@ -27,6 +27,12 @@ fn blank() -> [u8; 1100]
     [0; 1100]
 }
 
+fn table_area() -> [u8; 8192]
+    ensures { λ r. ⌜ 8192 ≡ length r ⌝ }
+{
+    [0; 8192]
+}
+
 // So many bytes, but no more than there are.
 fn within(n: usize, bytes: &[u8]) -> usize
     ensures { λ r. ⌜ Counts r (now (bytes .entry)) ⌝ }
@@ -63,7 +69,7 @@ fn table(text: &[u8]) {
     let mut agree: usize = 0;
     let mut cases: usize = 0;
     let mut start: usize = 0;
-    while start < 4096 && at(text, start) != 0 {
+    while start < 8192 && at(text, start) != 0 {
         agree += put(&cases_table::read(text, start)) as usize;
         cases += 1;
         start = cases_table::end(text, start) + 1;
@@ -92,7 +98,7 @@ fn every(two: bool, what: &[u8]) {
 }
 
 fn main() {
-    let mut text = io::buffer();
+    let mut text = table_area();
     let n = io::read_full(0, &mut text);
     table(&text[..n]);
     every(false, b" plans of 4 bytes agree, in form, pairs and core\n");

@@ -1,7 +1,9 @@
 // Areas to lend, of bytes and of numbers, filled with what is no letter, no place and no slot, and whether it is kept.
 
+ghost use Prim.Native.Nat.{_≤_};
 ghost use mathlib.Core.Path.{_≡_};
 ghost use lib.ListN.{length};
+use cases_solver::at;
 
 pub type Bytes = [u8; 1100];
 
@@ -45,6 +47,41 @@ pub fn kept(numbers: &Numbers, n: usize) -> bool {
         i += 1;
     }
     true
+}
+
+// Have all numbers been kept but the first n.
+pub fn numbers_kept(numbers: &Numbers, n: usize) -> bool {
+    let mut i = n;
+    while i < 1100 {
+        if numbers[i] != KEPT_NUMBER {
+            return false;
+        }
+        i += 1;
+    }
+    true
+}
+
+// Bytes as the first numbers of an array, with zeros behind them.
+pub fn widened(bytes: &[u8]) -> Numbers
+    ensures { λ r. ⌜ 1100 ≡ length r ⌝ }
+{
+    let mut numbers = [0u16; 1100];
+    let mut i: usize = 0;
+    while i < 1100 && i < bytes.len() {
+        numbers[i] = at(bytes, i) as u16;
+        i += 1;
+    }
+    numbers
+}
+
+// How many those are.
+pub fn width(bytes: &[u8]) -> usize
+    ensures { λ r. ⌜ r ≤ 1100 ⌝ }
+{
+    if bytes.len() < 1100 {
+        return bytes.len();
+    }
+    1100
 }
 
 pub fn same_numbers(v: &Numbers, w: &Numbers) -> bool {

@@ -1,12 +1,13 @@
 // The answers to the bench cases, of the library and of the solver, and how they are printed. An answer is a word: a
-// normal form or a core behind its length, the pairs of a normal form (pairs.rt says how), a verdict (1 for yes, 0 for
-// no, 2 for a yes that is not borne out; of two loops with the rounds behind it) or a refusal as the crate cases_solver
-// has it.
+// normal form or a core behind its length, the pairs or the slots of a normal form (pairs.rt and slots.rt say how), a
+// verdict (1 for yes, 0 for no, 2 for a yes that is not borne out; of two loops with the rounds behind it) or a refusal
+// as the crate cases_solver has it.
 
 mod areas;
 mod library;
 mod pairs;
 mod printing;
+mod slots;
 mod solver;
 
 pub use areas::Bytes;
@@ -16,6 +17,8 @@ pub use areas::bytes_kept;
 pub use areas::kept;
 pub use areas::same_numbers;
 pub use areas::second_area;
+pub use areas::widened;
+pub use areas::width;
 pub use library::checked;
 pub use library::compared;
 pub use library::formed;
@@ -27,6 +30,7 @@ pub use library::paired;
 pub use library::preceded;
 pub use library::read;
 pub use library::refused;
+pub use library::slotted;
 pub use library::written;
 pub use printing::answers;
 pub use printing::byte;
@@ -34,5 +38,6 @@ pub use printing::count;
 pub use printing::number;
 pub use printing::signed;
 pub use printing::text;
+pub use solver::in_order;
 pub use solver::solved;
 pub use solver::verdict;

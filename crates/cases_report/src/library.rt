@@ -2,8 +2,10 @@
 
 use crate::areas::Numbers;
 use crate::areas::kept;
+use crate::areas::numbers_kept;
 use crate::pairs::first_pairs;
 use crate::pairs::marked;
+use crate::slots::with_slots;
 use crate::solver::settled;
 use crate::solver::verdict;
 use cases_solver::Word;
@@ -18,6 +20,7 @@ use spec::Loops;
 use spec::NormalForm;
 use spec::Precedence;
 use spec::Refusal;
+use spec::Slots;
 use spec::Written;
 
 pub fn refused(refusal: Refusal) -> Word {
@@ -68,6 +71,17 @@ pub fn paired(answer: NormalForm, numbers: &Numbers) -> Word {
             marked(first_pairs(numbers, pairs), kept(numbers, pairs))
         }
         NormalForm::Refused(refusal) => marked(refused(refusal), kept(numbers, 0)),
+    }
+}
+
+// Of slots, with all numbers of the slot area.
+pub fn slotted(answer: Slots, area: &[u8], numbers: &Numbers) -> Word {
+    match answer {
+        Slots::Numbered { length, in_use } => marked(
+            with_slots(letters(area, length), numbers, in_use),
+            numbers_kept(numbers, length),
+        ),
+        Slots::Refused(refusal) => marked(refused(refusal), numbers_kept(numbers, 0)),
     }
 }
 

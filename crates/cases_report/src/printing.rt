@@ -71,6 +71,34 @@ fn pairs(answer: Word) {
     kept(answer);
 }
 
+// How many slots are in use.
+fn in_use(n: usize) {
+    text(b", ");
+    if n == 0 {
+        text(b"no slot");
+    } else {
+        number(n);
+    }
+    text(b" in use");
+}
+
+// A normal form and its slots.
+fn slots(answer: Word) {
+    word(answer);
+    let n = at(&answer, 0) as usize;
+    if n != 0 {
+        text(b", slots");
+    }
+    let mut i: usize = 0;
+    while i < 28 && i < n {
+        byte(b' ');
+        number(at(&answer, 30 + i) as usize);
+        i += 1;
+    }
+    in_use(at(&answer, 29) as usize);
+    kept(answer);
+}
+
 fn refusal(answer: Word) {
     text(b" refused");
     signed(at(&answer, 63));
@@ -85,6 +113,7 @@ fn yes(call: u8) {
         b'e' => text(b" equal"),
         b'l' => text(b" joined"),
         b'r' => text(b" in conflict"),
+        b'o' => text(b" yes"),
         _ => text(b" a lead-in"),
     }
 }
@@ -94,6 +123,7 @@ fn no(call: u8) {
         b'e' => text(b" not equal"),
         b'l' => text(b" apart"),
         b'r' => text(b" not in conflict"),
+        b'o' => text(b" no"),
         b'f' => text(b" no fault"),
         _ => text(b" no lead-in"),
     }
@@ -128,6 +158,8 @@ fn answer(call: u8, answer: Word) {
         word(answer);
     } else if call == b'p' {
         pairs(answer);
+    } else if call == b's' {
+        slots(answer);
     } else {
         verdict(call, at(&answer, 0));
         rounds(call, at(&answer, 1));

@@ -1,8 +1,13 @@
 // What the solver answers.
 
 use crate::areas::second_area;
+use crate::areas::widened;
+use crate::areas::width;
 use crate::pairs::first_pairs;
+use crate::slots::with_slots;
 use cases_solver::Word;
+use cases_solver::all_stay_before;
+use cases_solver::arrange;
 use cases_solver::at;
 use cases_solver::blank;
 use cases_solver::core;
@@ -16,9 +21,13 @@ use cases_solver::refusal_of_catalogue;
 use cases_solver::refusal_of_form;
 use cases_solver::refusal_of_loops;
 use cases_solver::refusal_of_normal_form;
+use cases_solver::refusal_of_precedence;
+use cases_solver::refusal_of_slots;
 use cases_solver::refusal_of_three;
 use cases_solver::same;
+use cases_solver::slots;
 use cases_solver::tied;
+use cases_solver::unswapped;
 use cases_solver::with;
 
 pub fn verdict(number: u8) -> Word {
@@ -29,6 +38,27 @@ fn paired(c: &[u8], plan: &[u8]) -> Word {
     let mut numbers = second_area();
     let n = pairs(c, plan, &mut numbers);
     first_pairs(&numbers, n)
+}
+
+fn slotted(c: &[u8], plan: &[u8]) -> Word {
+    let mut numbers = second_area();
+    let n = slots(c, plan, &mut numbers);
+    with_slots(normal_form(c, plan), &numbers, n)
+}
+
+// Of a precedence check, if the normal form has at most 6 letters.
+pub fn in_order(c: &[u8], plan: &[u8], places: &[u16]) -> Word {
+    let mut rows = unswapped();
+    let n = arrange(c, plan, &mut rows);
+    or(
+        refusal_of_precedence(c, plan, places),
+        verdict(all_stay_before(&rows, n, places) as u8),
+    )
+}
+
+// The same, with the places as bytes.
+fn in_short_order(c: &[u8], plan: &[u8], places: &[u8]) -> Word {
+    in_order(c, plan, &widened(places)[0..width(places)])
 }
 
 // A verdict on two loops, with the rounds that settling takes.
@@ -56,6 +86,8 @@ pub fn solved(
             normal_form(c, v),
         ),
         b'p' => or(refusal_of_normal_form(c, v, room, numbers), paired(c, v)),
+        b's' => or(refusal_of_slots(c, v, room, numbers), slotted(c, v)),
+        b'o' => in_short_order(c, v, w),
         b'c' => or(refusal_of_form(c, v, room), core(c, v)),
         b'e' => verdict(same(normal_form(c, v), normal_form(c, w)) as u8),
         b'l' => or(

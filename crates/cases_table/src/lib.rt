@@ -2,8 +2,8 @@
 // It has seven parts: w, u, the area and the second area (of which the sizes count), the catalogue and the name of a
 // case, of at most 540 bytes each, and v, of at most 1,100. Before them stand the sizes of the parts, two bytes each,
 // low byte first, and at place 20 the letter of the call: r (reading the catalogue: whether the two commands of v
-// conflict), n (normal form), p (its pairs), c (core), e (equal), l (loops), f (fault) or j (whether u leads from v to
-// w).
+// conflict), n (normal form), p (its pairs), s (its slots), o (precedence: whether its letters stay in the order of the
+// places w), c (core), e (equal), l (loops), f (fault) or j (whether u leads from v to w).
 
 ghost use Prim.Native.Nat.{_<_};
 use cases_solver::at;

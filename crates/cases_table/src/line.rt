@@ -1,6 +1,6 @@
-// Reading a line of the table: a name, ":", a call and the plans, with ";" between them. "@" brings the bytes of the
-// area, and after ";" the numbers of the second one; "#" brings another catalogue than K. −3 is byte 131, and "0 x5" is
-// five zeros.
+// Reading a line of the table: a name, ":", a call and the plans, or a plan and places, with ";" between them. "@"
+// brings the bytes of the area, and after ";" the numbers of the second one, for pairs or slots; "#" brings another
+// catalogue than K. −3 is byte or place 131, and "0 x5" is five zeros.
 
 ghost use Prim.Native.Nat.{_<_, _≤_};
 use crate::AREA;
@@ -47,6 +47,16 @@ fn taken(q: Question, part: usize, mark: u8, value: usize) -> Question
     }
 }
 
+// The letter of the call that is named at a place: its first, but o for precedence, since p is for pairs.
+fn letter(text: &[u8], i: usize) -> u8
+    requires { ⌜ i < 8200 ⌝ }
+{
+    if at(text, i) == b'p' && at(text, i + 1) == b'r' {
+        return b'o';
+    }
+    at(text, i)
+}
+
 // Opens a part: it begins empty, and the letter behind its mark is kept at place 14 + part.
 fn opened(q: Question, part: usize, letter: u8) -> Question
     requires { ⌜ part < 7 ⌝ }
@@ -71,7 +81,7 @@ fn part_of(mark: u8, part: usize) -> usize
 // A letter of the name, or a number that begins behind a mark.
 fn kept(q: Question, part: usize, text: &[u8], i: usize) -> Question
     requires { ⌜ part < 7 ⌝ }
-    requires { ⌜ i < 4096 ⌝ }
+    requires { ⌜ i < 8192 ⌝ }
 {
     let mark = at(text, i);
     if part == NAME {
@@ -86,12 +96,12 @@ fn kept(q: Question, part: usize, text: &[u8], i: usize) -> Question
 // One more character of a line, in this part.
 fn step(q: Question, before: usize, part: usize, text: &[u8], i: usize) -> Question
     requires { ⌜ part < 7 ⌝ }
-    requires { ⌜ i < 4096 ⌝ }
+    requires { ⌜ i < 8192 ⌝ }
 {
     if part == before {
         kept(q, part, text, i)
     } else {
-        opened(q, part, at(text, i + 2))
+        opened(q, part, letter(text, i + 2))
     }
 }
 
@@ -100,7 +110,7 @@ fn line(q: Question, text: &[u8], start: usize) -> Question {
     let mut read = q;
     let mut part = NAME;
     let mut i = start;
-    while i < 4095 && at(text, i) != b'\n' {
+    while i < 8191 && at(text, i) != b'\n' {
         let before = part;
         part = part_of(at(text, i), before);
         let next = step(read, before, part, text, i);
@@ -124,11 +134,11 @@ pub fn read(text: &[u8], start: usize) -> Question {
 
 // The end of the line at a place.
 pub fn end(text: &[u8], start: usize) -> usize
-    requires { ⌜ start ≤ 4095 ⌝ }
-    ensures { λ r. ⌜ (start ≤ r) × (r ≤ 4095) ⌝ }
+    requires { ⌜ start ≤ 8191 ⌝ }
+    ensures { λ r. ⌜ (start ≤ r) × (r ≤ 8191) ⌝ }
 {
     let mut i = start;
-    while i < 4095 && at(text, i) != b'\n' {
+    while i < 8191 && at(text, i) != b'\n' {
         i += 1;
     }
     i

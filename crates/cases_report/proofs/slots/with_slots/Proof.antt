@@ -1,0 +1,22 @@
+-- `with_slots` is safe and ends: the measure is `28 - i`.
+use Prim.Native.Nat.{_-_}
+use borrow.Author.Needs.{needs}
+use Rattle.cases_report.proofs.slots.with_slots.Statement.{statement}
+use Rattle.cases_report.proofs.slots.with_slots.Tie as tie
+
+abbrev Inv-loop : tie.InvT-loop
+Inv-loop form numbers in-use word₀ i₀ word i = Unit {0}
+
+abbrev μ-loop : tie.MeasureT-loop
+μ-loop form numbers in-use word₀ i₀ word i = 28 - i
+
+pub with-slots-spec : {M : Type 1} → statement M
+with-slots-spec =
+    tie.close
+    (tie.spec
+    Inv-loop
+    μ-loop
+    (λ c κs. search needs) (λ c κs. search needs) (λ c. search needs) (λ c. search needs) (λ c κs. search needs)
+    (λ c. search needs) (λ c. search needs) (λ c κs. search needs) (λ c. search needs) (λ c κs. search needs)
+    (λ c κs. search needs) (λ c. search needs) (λ c. search needs) (λ c. search needs) (λ c. search needs)
+    (λ c. search needs))
