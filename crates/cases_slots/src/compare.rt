@@ -5,6 +5,7 @@ use cases_report::Bytes;
 use cases_report::Numbers;
 use cases_report::area;
 use cases_report::bytes_kept;
+use cases_report::in_order;
 use cases_report::kept;
 use cases_report::letters;
 use cases_report::preceded;
@@ -17,9 +18,7 @@ use cases_solver::all_stay_before;
 use cases_solver::arrange;
 use cases_solver::at;
 use cases_solver::normal_form;
-use cases_solver::or;
 use cases_solver::refusal;
-use cases_solver::refusal_of_precedence;
 use cases_solver::refusal_of_slots;
 use cases_solver::same;
 use cases_solver::unswapped;
@@ -69,13 +68,10 @@ pub fn slots_agree(c: &[u8], plan: &[u8], bytes: usize, numbers: usize) -> bool
 
 // Do they agree on a list of places, whatever it is.
 pub fn list_agrees(c: &[u8], plan: &[u8], places: &[u16]) -> bool {
-    let mut rows = unswapped();
-    let n = arrange(c, plan, &mut rows);
-    let theirs = or(
-        refusal_of_precedence(c, plan, places),
-        verdict(all_stay_before(&rows, n, places) as u8),
-    );
-    same(preceded(busplan::precedence(c, plan, places)), theirs)
+    same(
+        preceded(busplan::precedence(c, plan, places)),
+        in_order(c, plan, places),
+    )
 }
 
 // Do they agree on places i and j of a normal form that has so many arrangements.

@@ -1,9 +1,7 @@
-// Slots and the precedence check: cases whose answers are known; then many short plans at random, with what the library
-// says of them beside what the solver says; then the same with catalogues, plans, areas and lists of places that are
-// damaged, of which most are refused.
+// Slots and the precedence check: many short plans at random, with what the library says of them beside what the solver
+// says; then the same with catalogues, plans, areas and lists of places that are damaged, of which most are refused.
 
 mod compare;
-mod known;
 mod list;
 
 ghost use Prim.Native.Nat.{_<_, _≤_};
@@ -100,33 +98,22 @@ fn put(state: &mut u32, damaged: bool) -> bool {
     }
 }
 
-// Question number t of a part: a known case, a plan at random, or a damaged one.
-fn agree(part: u8, state: &mut u32, t: usize) -> bool {
-    match part {
-        0 => known::case(t),
-        1 => put(state, false),
-        _ => put(state, true),
-    }
-}
-
-// So many questions of a part.
-fn every(part: u8, turns: usize, what: &[u8]) {
+// 50,000 of them.
+fn every(damaged: bool, what: &[u8]) {
     let mut state: u32 = 1;
     let mut agreed: usize = 0;
     let mut t: usize = 0;
-    while t < turns {
-        agreed += agree(part, &mut state, t) as usize;
+    while t < 50000 {
+        agreed += put(&mut state, damaged) as usize;
         t += 1;
     }
     cases_report::count(agreed, t, what);
 }
 
 fn main() {
-    every(0, 21, b" cases have the answers known\n");
-    every(1, 50000, b" plans agree, in slots and precedence\n");
+    every(false, b" plans agree, in slots and precedence\n");
     every(
-        2,
-        50000,
+        true,
         b" damaged inputs agree, in refusals, slots and precedence\n",
     );
 }

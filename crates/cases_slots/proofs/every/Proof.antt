@@ -1,4 +1,4 @@
--- `every` is safe and ends: the measure is `turns - t`, the invariant `agreed ≤ t`.
+-- `every` is safe and ends: the measure is `50000 - t`, the invariant `agreed ≤ t`.
 use native.Mathlib.Omega.{arith}
 use Prim.Native.Nat.{_-_, _≤_}
 use Rattle.cases_solver.proofs.Flag.{at-most-one}
@@ -7,16 +7,16 @@ use Rattle.cases_slots.proofs.every.Statement.{statement}
 use Rattle.cases_slots.proofs.every.Tie as tie
 
 abbrev Inv-loop : tie.InvT-loop
-Inv-loop part turns what state₀ agreed₀ t₀ state agreed t = agreed ≤ t
+Inv-loop damaged what state₀ agreed₀ t₀ state agreed t = agreed ≤ t
 
 abbrev μ-loop : tie.MeasureT-loop
-μ-loop part turns what state₀ agreed₀ t₀ state agreed t = turns - t
+μ-loop damaged what state₀ agreed₀ t₀ state agreed t = 50000 - t
 
 add-agreed : tie.Need-add-agreed Inv-loop μ-loop
-add-agreed c = omega (arith, at-most-one (c .agree .result))
+add-agreed c = omega (arith, at-most-one (c .put .result))
 
 loop-again : tie.Need-loop-again Inv-loop μ-loop
-loop-again c = omega (arith, at-most-one (c .agree .result))
+loop-again c = omega (arith, at-most-one (c .put .result))
 
 pub every-spec : {M : Type 1} → statement M
 every-spec =
