@@ -60,6 +60,9 @@ module _ {c : List ℕ} {rows : List (List ℕ)} (table : Conflicts c rows) wher
   }
 
   module _ (k : ℕ) (low : 1 ≤ k) (high : k ≤ 24) where
+    tells : (j : ℕ) → j < 24 → getD (getD rows (k - 1) []) j 0 ≡ yesNo (conflict c k (j + 1))
+    tells = line-tells table k low high
+
     pub clear-meets : {s R : List ℕ} → Marks s R → Clear (getD rows (k - 1) []) s → meets (alphabet c) k R ≡ false
     unfolding meets
     clear-meets {s} {R} m f = go R (m .held)
@@ -68,7 +71,7 @@ module _ {c : List ℕ} {rows : List (List ℕ)} (table : Conflicts c rows) wher
             → meets (alphabet c) k R ≡ false → (t || meets (alphabet c) k R) ≡ false
         step j R true e l h o ih =
             let i : j - 1 + 1 ≡ j = omega arith in
-            let b : getD (getD rows (k - 1) []) (j - 1) 0 ≡ 1 = line-tells table k low high (j - 1) (omega arith) ∙ rw (i, e) refl in
+            let b : getD (getD rows (k - 1) []) (j - 1) 0 ≡ 1 = tells (j - 1) (omega arith) ∙ rw (i, e) refl in
             absurd (f (j - 1) (omega arith) b o)
         step j R false e l h o ih = ih
 
@@ -87,9 +90,10 @@ module _ {c : List ℕ} {rows : List (List ℕ)} (table : Conflicts c rows) wher
 
     meets-clear : {s R : List ℕ} → Marks s R → meets (alphabet c) k R ≡ false → Clear (getD rows (k - 1) []) s
     meets-clear m e j l a b =
-        true≢false (sym (meets-held (m .only j l b) (yes-one (conflict c k (j + 1)) (sym (line-tells table k low high j l) ∙ a))) ∙ e)
+        true≢false (sym (meets-held (m .only j l b) (yes-one (conflict c k (j + 1)) (sym (tells j l) ∙ a))) ∙ e)
 
-    pub unclear-meets : {s R : List ℕ} → Marks s R → (Clear (getD rows (k - 1) []) s → ⊥) → meets (alphabet c) k R ≡ true
+    pub unclear-meets : {s R : List ℕ} → Marks s R → (Clear (getD rows (k - 1) []) s → ⊥)
+        → meets (alphabet c) k R ≡ true
     unclear-meets {R = R} m n = go (meets (alphabet c) k R) refl
       where
         go : (t : Bool) → meets (alphabet c) k R ≡ t → t ≡ true

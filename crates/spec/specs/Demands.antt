@@ -76,9 +76,9 @@ pub record Demand2 : Type 0 where
       → (length (take l (normalFormArea c v area)) ≡ l) × Shortest c v (take l (normalFormArea c v area))
 
 -- What cancelled. A normal form call with a second area is refused exactly for what one without is, or else by line 12,
--- for an area of fewer numbers than the plan has bytes. Where it is not refused, its length and its first area are those
--- of the call without, and the second area starts with the M pairs told, two numbers each: what the reading from left to
--- right finds, in its order. Past them it is as it was. That reading accounts for every letter of the plan.
+-- for an area of fewer numbers than the plan has bytes. Where it is not refused, its length and its first area are
+-- those of the call without, and the second area starts with the M pairs told, two numbers each: what the reading from
+-- left to right finds, in its order. Past them it is as it was. That reading accounts for every letter of the plan.
 pub record PairsDemand : Type 0 where
   pub refused-alike : (c v area pairs : List ℕ) (l : Line) → FirstHolds l (pairedLines c v area pairs)
       ↔ (FirstHolds l (normalFormLines c v area)
