@@ -37,18 +37,6 @@ pub fn bytes_kept(area: &Bytes, n: usize) -> bool {
     true
 }
 
-// Have all numbers been kept but those of the first n pairs.
-pub fn kept(numbers: &Numbers, n: usize) -> bool {
-    let mut i: usize = 0;
-    while i < 1100 {
-        if i / 2 >= n && numbers[i] != KEPT_NUMBER {
-            return false;
-        }
-        i += 1;
-    }
-    true
-}
-
 // Have all numbers been kept but the first n.
 pub fn numbers_kept(numbers: &Numbers, n: usize) -> bool {
     let mut i = n;
@@ -59,6 +47,14 @@ pub fn numbers_kept(numbers: &Numbers, n: usize) -> bool {
         i += 1;
     }
     true
+}
+
+// Have all numbers been kept but those of the first n pairs.
+pub fn kept(numbers: &Numbers, n: usize) -> bool {
+    if 550 < n {
+        return true;
+    }
+    numbers_kept(numbers, 2 * n)
 }
 
 // Bytes as the first numbers of an array, with zeros behind them.
