@@ -16,7 +16,7 @@ use Rattle.spec.specs.Notation.{signedByte, signedPlan, repeated, planOf}
 
 signed-passing : (n : ℕ) (u : Bool) (v : List ℕ) → Passing n v → Passing n (signedPlan u v)
 signed-passing n false v h = h
-signed-passing n true v h = rw append-nil at (undone-passing (n ∷ []) v [] h tt)
+signed-passing n true v h = rw append-nil at (undone-passing n v [] h tt)
 
 byte-passes : (n : ℕ) (u : Bool) (k : ℕ) → k ≤ n → passes n (signedByte u k) ≡ true
 byte-passes n false k h = passes-low n k h

@@ -24,27 +24,27 @@ use Rattle.spec_laws.specs.StepLaws.{equal-exact, equal-words, equal-lef
 use Rattle.spec_laws.specs.StepLaws.{kept-equal, kept-passing}
 use Rattle.spec.specs.Join.{Joins}
 
+-- undoing a plan keeps it passing, with any number of commands
+module _ (n : ℕ) where
+  passes-undone : (b : ℕ) → passes n b ≡ true → passes n (undone b) ≡ true
+  unfolding passes undone
+  passes-undone b e = go (passes-cases n b e)
+    where
+      go : (eqb b 0 ≡ true) ⊎ (isCommand n b ≡ true) → passes n (undone b) ≡ true
+      go (inl z) = rw (eqb-true b 0 z) (passes-low n 0 (omega arith))
+      go (inr k) = command-passes n (undone b) (isCommand-undone n b ∙ k)
+
+  pub undone-passing : (u v : List ℕ) → Passing n u → Passing n v → Passing n (undoOf u ++ v)
+  undone-passing u v h k = rw (undo-onto undone u v) at (onto u v h k)
+    where
+      onto : (u v : List ℕ) → Passing n u → Passing n v → Passing n (undoBy undone u v)
+      onto [] v h k = k
+      onto (b ∷ u) v h k = onto u (undone b ∷ v) (h .1) (passes-undone b (h .0), k)
+
 module _ (c : List ℕ) where
   infix 20 _≈_
   abbrev _≈_ : List ℕ → List ℕ → Type 0
   _≈_ = Group._≈_ (alphabet c)
-
-  passes-undone : (b : ℕ) → passes (commands c) b ≡ true → passes (commands c) (undone b) ≡ true
-  unfolding passes undone
-  passes-undone b e = go (passes-cases (commands c) b e)
-    where
-      go : (eqb b 0 ≡ true) ⊎ (isCommand (commands c) b ≡ true) → passes (commands c) (undone b) ≡ true
-      go (inl z) = rw (eqb-true b 0 z) (passes-low (commands c) 0 (omega arith))
-      go (inr k) = command-passes (commands c) (undone b) (isCommand-undone (commands c) b ∙ k)
-
-  pub undone-passing : (u v : List ℕ) → Passing (commands c) u → Passing (commands c) v
-      → Passing (commands c) (undoOf u ++ v)
-  undone-passing u v h k = rw (undo-onto undone u v) at (onto u v h k)
-    where
-      onto : (u v : List ℕ) → Passing (commands c) u → Passing (commands c) v
-          → Passing (commands c) (undoBy undone u v)
-      onto [] v h k = k
-      onto (b ∷ u) v h k = onto u (undone b ∷ v) (h .1) (passes-undone b (h .0), k)
 
   joined-letters : (u v : List ℕ) → letters (undoOf u ++ (v ++ u)) ≡ conj (alphabet c) (letters u) (letters v)
   unfolding conj
@@ -56,7 +56,7 @@ module _ (c : List ℕ) where
       → (Joins c v w u) ↔ (conj (alphabet c) (letters u) (letters v) ≈ letters w)
   joins-words v w u h k l = rw (joined-letters u v) at (
       equal-exact c (undoOf u ++ (v ++ u)) w
-      (undone-passing u (v ++ u) l (passing-append (commands c) v u h l)) k
+      (undone-passing (commands c) u (v ++ u) l (passing-append (commands c) v u h l)) k
       )
 
   kept-conj : (u v : List ℕ) → kept c (conj (alphabet c) u v) ≡ conj (alphabet c) (kept c u) (kept c v)
