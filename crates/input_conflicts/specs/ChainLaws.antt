@@ -13,7 +13,7 @@ use Rattle.spec.specs.AlphabetLaws.{within-over}
 use Rattle.spec_laws.specs.CatalogueLaws.{no-chain}
 use Rattle.input_chains.specs.Conflicts.{Conflicts}
 use Rattle.spec.specs.Answers.{yesNo}
-use Rattle.spec.specs.Conflict.{conflict}
+use Rattle.spec.specs.Conflict.{names, conflictBy, conflict}
 use Rattle.input_chains.specs.Marking.{cell, Shape, pairs}
 use Rattle.input_conflicts.specs.MarkedRows.{Blank, diagonal, Met}
 use Rattle.input_conflicts.specs.Known.{met, Chained}
@@ -121,7 +121,7 @@ eqb-up : (i j : ℕ) → eqb (i + 1) (j + 1) ≡ eqb i j
 eqb-up i j = rw (add-one i, add-one j) (eqb·suc-suc i j)
 
 pub met-conflicts : (c : List ℕ) {rows : List (List ℕ)} → Met c rows → Conflicts c (diagonal rows 24)
-unfolding conflict
+unfolding conflictBy names
 met-conflicts c {rows} m =
     record { tall = shape .tall; wide = shape .wide; tells = tells }
   where

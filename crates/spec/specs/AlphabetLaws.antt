@@ -8,8 +8,8 @@ use native.Mathlib.Omega.{arith}
 use native.Mathlib.Nat.{add-mod-right}
 use lib.Dec.{leb, eqb}
 use borrow.Author.Tests.{leb-true, leb-false, le-leb, lt-leb, eqb-true, eqb-false, eq-eqb, ne-eqb}
-use Rattle.spec.specs.Catalogue.{within, chain, stands}
-use Rattle.spec.specs.Conflict.{conflict}
+use Rattle.spec.specs.Catalogue.{within}
+use Rattle.spec.specs.Conflict.{names, conflictBy, conflict}
 use Rattle.spec.specs.Byte.{commandOf, undone}
 
 pub within-in : (low high b : ℕ) → low ≤ b → b ≤ high → within low high b ≡ true
@@ -104,10 +104,18 @@ eqb-sym a b = go (eqb a b) refl
     go true e = e ∙ sym (eq-eqb b a (sym (eqb-true a b e)))
     go false e = e ∙ sym (ne-eqb b a (λ h. eqb-false a b e (sym h)))
 
+-- conflicts, for all pairs together
+module _ (p : ℕ → ℕ → Bool) where
+  pub by-refl : (a : ℕ) → conflictBy p a a ≡ true
+  unfolding conflictBy
+  by-refl a = rw (eq-eqb a a refl)
+
+  pub by-sym : (a b : ℕ) → conflictBy p a b ≡ conflictBy p b a
+  unfolding conflictBy
+  by-sym a b = ap₂ (λ r s. r || s) (eqb-sym a b) (or-comm (p a b) (p b a))
+
 pub conflict-refl : (c : List ℕ) (a : ℕ) → conflict c a a ≡ true
-unfolding conflict
-conflict-refl c a = rw (eq-eqb a a refl)
+conflict-refl c = by-refl (names c)
 
 pub conflict-sym : (c : List ℕ) (a b : ℕ) → conflict c a b ≡ conflict c b a
-unfolding conflict
-conflict-sym c a b = ap₂ (λ p q. p || q) (eqb-sym a b) (or-comm (stands b (chain c a)) (stands a (chain c b)))
+conflict-sym c = by-sym (names c)

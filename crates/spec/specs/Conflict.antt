@@ -1,4 +1,4 @@
--- Which commands conflict, from the chains.
+-- Which commands conflict, from the pairs that a catalogue names, and from nothing else of it.
 use Prim.Native.Nat.{ℕ}
 use mathlib.Core.Path.{_≡_}
 use mathlib.Core.Bool.{Bool, _||_}
@@ -7,10 +7,24 @@ use mathlib.Core.Logic.{_⊎_}
 use lib.Dec.{eqb}
 use Rattle.spec.specs.Catalogue.{chain, stands}
 
--- one stands in the chain of the other, or they are the same
-abbrev pub Conflicting : List ℕ → ℕ → ℕ → Type 0
-Conflicting c a b = (a ≡ b) ⊎ (List·Memᴰ b (chain c a) ⊎ List·Memᴰ a (chain c b))
+-- a catalogue of either edition names the pair (a, b), a from 1 to N, if b stands in the chain of a
+abbrev pub Names : List ℕ → ℕ → ℕ → Type 0
+Names c a b = List·Memᴰ b (chain c a)
 
--- the same, computed: b stands in the chain of a, or a in the chain of b; a command always conflicts with itself
-unfoldable pub conflict : List ℕ → ℕ → ℕ → Bool
-conflict c a b = eqb a b || (stands b (chain c a) || stands a (chain c b))
+-- two commands conflict under named pairs if they are the same or one is named with the other
+abbrev pub ConflictingBy : (ℕ → ℕ → Type 0) → ℕ → ℕ → Type 0
+ConflictingBy P a b = (a ≡ b) ⊎ (P a b ⊎ P b a)
+
+abbrev pub Conflicting : List ℕ → ℕ → ℕ → Type 0
+Conflicting c = ConflictingBy (Names c)
+
+-- The same, computed
+
+unfoldable pub names : List ℕ → ℕ → ℕ → Bool
+names c a b = stands b (chain c a)
+
+unfoldable pub conflictBy : (ℕ → ℕ → Bool) → ℕ → ℕ → Bool
+conflictBy p a b = eqb a b || (p a b || p b a)
+
+abbrev pub conflict : List ℕ → ℕ → ℕ → Bool
+conflict c = conflictBy (names c)

@@ -26,7 +26,7 @@ use Rattle.theory_schedules.specs.Precedence.{raised}
 use Rattle.spec.specs.Table.{given, firstLine, firstOf}
 use Rattle.spec_laws.specs.TableLaws.{none-holds}
 use Rattle.spec.specs.Catalogue.{ends, follow, stands}
-use Rattle.spec.specs.Conflict.{conflict}
+use Rattle.spec.specs.Conflict.{names, conflictBy}
 use Rattle.spec.specs.Plan.{isCommand, passes}
 use Rattle.spec.specs.Byte.{undone}
 use Rattle.spec.specs.Letters.{letters, alphabet, normalForm}
@@ -69,7 +69,7 @@ apart-row v w r e d q = (none-holds (loopsLines K v w (room v w)) .0 e, rw (← 
 
 pub starred-hold : StarredCases
 unfolding firstOf without-step without act-step act reduce meets firsts least-step least rest
-    lex-step lex nf ends follow stands conflict isCommand passes undone letters normalForm ℕ-discrete
+    lex-step lex nf ends follow stands names conflictBy isCommand passes undone letters normalForm ℕ-discrete
     Core.undone without-last between pair-step pair peels-step peels core coreForm insert-step insert
     relabel-step relabel merge-step Part.commands merge merge-row merge-all labels label apexes share part hit
     put split settled-step settled ring counted-step counted part-rounds most-rounds core-rounds loopsRounds

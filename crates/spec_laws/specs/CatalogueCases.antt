@@ -7,7 +7,7 @@ use mathlib.Core.List.{List, [], _∷_}
 use mathlib.Core.Option.{Option, none, some}
 use Rattle.spec.specs.Table.{Line, line, firstLine, firstOf}
 use Rattle.spec.specs.Catalogue.{ends, follow, chain, stands, catalogueLines}
-use Rattle.spec.specs.Conflict.{conflict}
+use Rattle.spec.specs.Conflict.{names, conflictBy, conflict}
 use Rattle.spec.specs.Cases.{K}
 
 abbrev lineFor : List ℕ → Option Line
@@ -63,7 +63,7 @@ unfolding firstOf ends follow stands
 K-passes = refl
 
 K-conflict : (conflict K 3 2 ≡ true) × (conflict K 1 3 ≡ false)
-unfolding conflict follow stands
+unfolding conflictBy names follow stands
 K-conflict = (refl, refl)
 
 K-chains : (chain K 0 ≡ []) × (chain K 1 ≡ 2 ∷ []) × (chain K 4 ≡ []) × (chain K 5 ≡ [])
