@@ -1,14 +1,21 @@
 /* busplan: comparing bus plans. C interface (C99 or later, C++) of the proved library libbusplan.a; docs/MANUAL.md is
  * its manual.
  *
- * A catalogue says which commands conflict:
+ * A catalogue says which commands conflict. The first edition is:
  *   byte 0        N, the number of commands, 0 to 24
  *   byte 1        R, the number of records, 0 to 255
  *   N bytes       the head index of command 1 to N
  *   R records     two bytes each: a command, and the index of the next record
- * Records are numbered from 1; index 0 ends a chain. Commands a and b conflict if b stands in the chain of a or a in
- * the chain of b. The whole is exactly 2 + N + 2R bytes. Chains may share their tails, and must where there are more
- * pairs than records: 24 commands that all conflict are 276 pairs, more than the 255 records that R can count.
+ * The whole is exactly 2 + N + 2R bytes. A first byte of 128 or more begins the second edition, in which R and every
+ * index take two bytes, low byte first:
+ *   byte 0        128 + N
+ *   2 bytes       R, 0 to 1,024
+ *   2N bytes      the head index of command 1 to N
+ *   R records     three bytes each: a command, and the index of the next record
+ * The whole is exactly 3 + 2N + 3R bytes. Every call takes either edition. In both, records are numbered from 1, and
+ * index 0 ends a chain. Commands a and b conflict if b stands in the chain of a or a in the chain of b. Chains may
+ * share their tails; in the first edition they must where there are more pairs than records: 24 commands that all
+ * conflict are 276 pairs, more than the 255 records that its R can count.
  *
  * A plan is a string of bytes: k, 1 to N, does command k; 128 + k undoes it; 0 is a filler with no effect. A plan has
  * at most BUSPLAN_MAX_PLAN bytes, a lead-in handed in for checking at most BUSPLAN_MAX_LEAD_IN.
@@ -42,16 +49,18 @@
 extern "C" {
 #endif
 
-#define BUSPLAN_VERSION "2.1.0"
+#define BUSPLAN_VERSION "2.2.0"
 
 #define BUSPLAN_MAX_COMMANDS 24
+#define BUSPLAN_MAX_RECORDS 1024
 #define BUSPLAN_MAX_PLAN 1024
 #define BUSPLAN_MAX_LEAD_IN 49152
-#define BUSPLAN_MAX_CATALOGUE 536 /* 2 + 24 + 2 * 255 */
+#define BUSPLAN_MAX_CATALOGUE 3123 /* 3 + 2 * 24 + 3 * 1024 */
 #define BUSPLAN_MAX_NESTING 8
 
 /* The room that each area must have at least, in bytes, and for slots in 16-bit numbers, from N and the byte counts of
- * the plans, and the most that any call asks for: an area of that size is never refused. */
+ * the plans, and the most that any call asks for: an area of that size is never refused. N is byte 0 of the catalogue,
+ * in the second edition less 128. */
 #define BUSPLAN_FORM_ROOM(plan_size) ((size_t)(plan_size))
 #define BUSPLAN_SLOTS_ROOM(plan_size) ((size_t)(plan_size))
 #define BUSPLAN_LOOPS_ROOM(commands, v_size, w_size) ((size_t)(commands) * ((size_t)(v_size) + (size_t)(w_size)))
@@ -78,13 +87,14 @@ extern "C" {
 #define BUSPLAN_TEXT_FAULT_STACK 8000
 #define BUSPLAN_STACK 300000 /* any of them */
 
-/* Why a call is refused: the first of these that holds, in this order, but 7 and 8 plan by plan: those of the first
- * plan come before those of the second. For a text the order is 1 to 6, 13, 14, 8, 15, 9, and for a list of places it
- * is 1 to 8, 16. A call returns minus the number; busplan_fault tells the plan and the place, busplan_text_fault those
- * of a text, and busplan_precedence_fault those of a plan with a list of places. No function here returns 12: it is of
- * the normal form call from Rattle, which also tells the places of the letters that cancelled with each other. */
+/* Why a call is refused: the first of these that holds. Those of the catalogue come first, in the order 1, 2, 17, 3, 4,
+ * 5, 6. Behind them come 7 and 8, those of the first plan before those of the second, and then 9; with a list of places
+ * 7, 8, 16, and for a text 13, 14, 8, 15, 9. A call returns minus the number; busplan_fault tells the plan and the
+ * place, busplan_text_fault those of a text, and busplan_precedence_fault those of a plan with a list of places. No
+ * function here returns 12: it is of the normal form call from Rattle, which also tells the places of the letters that
+ * cancelled with each other. */
 enum busplan_refusal {
-    BUSPLAN_CATALOGUE_SIZE = 1, /* catalogue under 2 bytes, or not 2 + N + 2R */
+    BUSPLAN_CATALOGUE_SIZE = 1, /* catalogue under 2 bytes, or not 2 + N + 2R; second edition: 3, and 3 + 2N + 3R */
     BUSPLAN_COMMAND_COUNT = 2,  /* N above 24 */
     BUSPLAN_INDEX = 3,          /* a head or next index above R */
     BUSPLAN_RECORD_COMMAND = 4, /* a record whose command is 0 or above N */
@@ -99,13 +109,14 @@ enum busplan_refusal {
     BUSPLAN_TEXT = 13,          /* a text that is not in the notation */
     BUSPLAN_NESTING = 14,       /* a text whose brackets nest deeper than 8 */
     BUSPLAN_WRITTEN_SIZE = 15,  /* a text whose plan, written out, is over 1,024 bytes */
-    BUSPLAN_PLACES = 16         /* a pair of places that is not two different places of the normal form */
+    BUSPLAN_PLACES = 16,        /* a pair of places that is not two different places of the normal form */
+    BUSPLAN_RECORD_COUNT = 17   /* R above 1,024; after 2 and before 3 */
 };
 
 /* What a call's answer says if it is a refusal, in English, without the plan and the place. */
 static inline const char *busplan_refusal_text(int64_t answer) {
     switch (answer) {
-    case -BUSPLAN_CATALOGUE_SIZE: return "the catalogue is not 2 + N + 2R bytes long";
+    case -BUSPLAN_CATALOGUE_SIZE: return "the catalogue is not 2 + N + 2R bytes long, or 3 + 2N + 3R (second edition)";
     case -BUSPLAN_COMMAND_COUNT: return "the catalogue has more than 24 commands";
     case -BUSPLAN_INDEX: return "the catalogue has a head or next index above R";
     case -BUSPLAN_RECORD_COMMAND: return "the catalogue has a record whose command is 0 or above N";
@@ -120,6 +131,7 @@ static inline const char *busplan_refusal_text(int64_t answer) {
     case -BUSPLAN_NESTING: return "a text has brackets that nest deeper than 8";
     case -BUSPLAN_WRITTEN_SIZE: return "the plan of a text is over 1,024 bytes when it is written out";
     case -BUSPLAN_PLACES: return "a pair of places is not two different places of the normal form";
+    case -BUSPLAN_RECORD_COUNT: return "the catalogue has more than 1,024 records";
     default: return answer < 0 ? "no refusal of this library" : "not refused";
     }
 }
@@ -162,11 +174,11 @@ int64_t busplan_precedence(const uint8_t *catalogue, size_t catalogue_size,
                            const uint8_t *plan, size_t plan_size,
                            const uint16_t *places, size_t places_size);
 
-/* What is wrong with a catalogue, a plan and a list of places in its normal form: the first of refusals 1 to 8 and 16
- * that holds, in this order, as minus its number, and then fault[0] is the plan (1, or 0 for the catalogue and for the
- * list) and fault[1] the place, counted from 0. For 16 the place is the number of the pair, from 0: the first pair that
- * lacks its second place, names a place past the normal form (its length or more) or names the same place twice.
- * Returns 0 if none holds, and fault keeps its contents. fault must point to two numbers.
+/* What is wrong with a catalogue, a plan and a list of places in its normal form: the first of refusals 1 to 8, 16 and
+ * 17 that holds, in the order above, as minus its number, and then fault[0] is the plan (1, or 0 for the catalogue and
+ * for the list) and fault[1] the place, counted from 0. For 16 the place is the number of the pair, from 0: the first
+ * pair that lacks its second place, names a place past the normal form (its length or more) or names the same place
+ * twice. Returns 0 if none holds, and fault keeps its contents. fault must point to two numbers.
  * busplan_precedence with the same catalogue, plan and list is refused for just this, and where 0 is returned it is not
  * refused. */
 int64_t busplan_precedence_fault(const uint8_t *catalogue, size_t catalogue_size,
@@ -198,12 +210,13 @@ int64_t busplan_lead_in_check(const uint8_t *catalogue, size_t catalogue_size,
                               uint8_t *area0, size_t area0_size,
                               uint8_t *area1, size_t area1_size);
 
-/* What is wrong with a catalogue and up to three plans, empty where a call has fewer: the first of refusals 1 to 8 that
- * holds, in the order above, as minus its number, and then fault[0] is the plan (1, 2 or 3 in the order given, 0 for the
- * catalogue) and fault[1] the place in it, counted from 0. Returns 0 if none holds, and fault keeps its contents. v and
- * w may have BUSPLAN_MAX_PLAN bytes, u BUSPLAN_MAX_LEAD_IN. fault must point to two numbers.
+/* What is wrong with a catalogue and up to three plans, empty where a call has fewer: the first of refusals 1 to 8 and
+ * 17 that holds, in the order above, as minus its number, and then fault[0] is the plan (1, 2 or 3 in the order given,
+ * 0 for the catalogue) and fault[1] the place in it, counted from 0; an index of two bytes has the place of its low
+ * byte. Returns 0 if none holds, and fault keeps its contents. v and w may have BUSPLAN_MAX_PLAN bytes, and u
+ * BUSPLAN_MAX_LEAD_IN. fault must point to two numbers.
  * A call with the same catalogue and plans is refused for just this, and where 0 is returned it is refused for an area
- * alone (9) or for a list of places (16), if at all: so this tells the place of any refusal from 1 to 8. */
+ * alone (9) or for a list of places (16), if at all: so this tells the place of any refusal from 1 to 8 and of 17. */
 int64_t busplan_fault(const uint8_t *catalogue, size_t catalogue_size,
                       const uint8_t *v, size_t v_size,
                       const uint8_t *w, size_t w_size,
@@ -217,9 +230,9 @@ int64_t busplan_write_out(const uint8_t *catalogue, size_t catalogue_size,
                           const uint8_t *text, size_t text_size,
                           uint8_t *area, size_t area_size);
 
-/* What is wrong with a catalogue and a text: the first of refusals 1 to 6, 13, 14, 8 and 15 that holds, in this order,
- * as minus its number, and then fault[0] is 0 for the catalogue or 1 for the text, and fault[1] the place in it, which
- * counts from 0. The places of a text are these:
+/* What is wrong with a catalogue and a text: the first of refusals 1 to 6, 17, 13, 14, 8 and 15 that holds, in the
+ * order above, as minus its number, and then fault[0] is 0 for the catalogue or 1 for the text, and fault[1] the place
+ * in it, which counts from 0. The places of a text are these:
  *   13  the first byte after which no ending could mend the text; the text's length if it only stops too soon
  *   14  the first opening bracket that nests deeper than 8
  *   8   the first digit of the first command above N, whatever the counts of the groups are that it stands in

@@ -549,7 +549,7 @@ static void check_room(const struct row *row) {
 }
 
 /* The largest room is what the largest plans ask for. */
-_Static_assert(BUSPLAN_MAX_CATALOGUE == 2 + BUSPLAN_MAX_COMMANDS + 2 * 255, "the largest catalogue");
+_Static_assert(BUSPLAN_MAX_CATALOGUE == 3 + 2 * BUSPLAN_MAX_COMMANDS + 3 * BUSPLAN_MAX_RECORDS, "the catalogue");
 _Static_assert(BUSPLAN_MAX_FORM_ROOM == BUSPLAN_FORM_ROOM(BUSPLAN_MAX_PLAN), "the room for a form");
 _Static_assert(BUSPLAN_MAX_SLOTS_ROOM == BUSPLAN_SLOTS_ROOM(BUSPLAN_MAX_PLAN), "the room for slots");
 _Static_assert(BUSPLAN_MAX_LOOPS_ROOM
@@ -567,8 +567,9 @@ static const struct {
     {-1, "2 + N + 2R"}, {-2, "24 commands"}, {-3, "index"}, {-4, "record whose"}, {-5, "doesn't end"},
     {-6, "its own chain"}, {-7, "a lead-in over"}, {-8, "byte that"}, {-9, "area"}, {-11, "framed"},
     {-12, "letters that cancelled"}, {-13, "notation"}, {-14, "deeper than 8"}, {-15, "written out"},
-    {-16, "different places"}, {0, "not refused"}, {1, "not refused"}, {INT64_MAX, "not refused"},
-    {-10, "no refusal of this library"}, {-17, "no refusal of this library"}, {INT64_MIN, "no refusal of this library"},
+    {-16, "different places"}, {-17, "1,024 records"}, {0, "not refused"}, {1, "not refused"},
+    {INT64_MAX, "not refused"}, {-10, "no refusal of this library"}, {-18, "no refusal of this library"},
+    {INT64_MIN, "no refusal of this library"},
 };
 
 static void check_texts(void) {

@@ -59,6 +59,7 @@ specified() {
     }
   ' crates/spec/specs/Table.antt
   limit 's/^countLine c = holds (ltb \([0-9]*\) .*/BUSPLAN_MAX_COMMANDS \1/p' crates/spec/specs/Catalogue.antt
+  limit 's/^recordsLine c = holds (ltb \([0-9]*\) .*/BUSPLAN_MAX_RECORDS \1/p' crates/spec/specs/Catalogue.antt
   limit 's/^planLimit = /BUSPLAN_MAX_PLAN /p' crates/spec/specs/Calls.antt
   limit 's/^leadInLimit = /BUSPLAN_MAX_LEAD_IN /p' crates/spec/specs/Loops.antt
   limit 's/^firstDeep d i (opening .*(leb \([0-9]*\) d).*/BUSPLAN_MAX_NESTING \1/p' crates/spec/specs/Notation.antt
@@ -71,7 +72,7 @@ declared() { # HEADER
   uncommented "$1" >"$out/uncommented"
   prototypes <"$out/uncommented"
   sed -n '/^enum busplan_refusal {/,/}/s/^ *\(BUSPLAN[A-Z_]*\) *= *\([0-9]*\).*/\1	\1 = \2/p' "$out/uncommented"
-  for largest in COMMANDS PLAN LEAD_IN NESTING; do
+  for largest in COMMANDS RECORDS PLAN LEAD_IN NESTING; do
     limit "s/^#define \(BUSPLAN_MAX_$largest \)/\1/p" "$1"
   done
 }
@@ -139,7 +140,7 @@ compare() { # HEADER: says what differs, and fails if anything does
 
 { exported; specified; } >"$out/source"
 for name in busplan_normal_form BUSPLAN_FRAMING \
-  BUSPLAN_MAX_COMMANDS BUSPLAN_MAX_PLAN BUSPLAN_MAX_LEAD_IN BUSPLAN_MAX_NESTING; do
+  BUSPLAN_MAX_COMMANDS BUSPLAN_MAX_RECORDS BUSPLAN_MAX_PLAN BUSPLAN_MAX_LEAD_IN BUSPLAN_MAX_NESTING; do
   if ! grep -q "^$name	" "$out/source"; then
     echo "header: $name is not found in the Rattle source" >&2
     exit 1
@@ -197,5 +198,7 @@ a number for each byte|busplan_slots|/ busplan_slots(/,/;/s/uint16_t \*slots/uin
 a list that may be changed|busplan_precedence|/ busplan_precedence(/,/;/s/const uint16_t \*places/uint16_t *places/
 room for one number more|busplan_slots|s/uint64_t in_use\[1\]/uint64_t in_use[2]/
 a refusal of places left out|BUSPLAN_PLACES|/BUSPLAN_PLACES = 16/d
+a refusal of the second edition left out|BUSPLAN_RECORD_COUNT|/BUSPLAN_RECORD_COUNT = 17/d
+another limit on records|BUSPLAN_MAX_RECORDS|s/^#define BUSPLAN_MAX_RECORDS .*/#define BUSPLAN_MAX_RECORDS 255/
 END
 echo "header: $(awk 'END { print NR }' "$out/source") names as in the Rattle source; $damages damaged copies caught"

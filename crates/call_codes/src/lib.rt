@@ -42,6 +42,7 @@ pub fn number(reason: Reason) -> u8
         Reason::Nesting => 14,
         Reason::WrittenSize => 15,
         Reason::Places => 16,
+        Reason::RecordCount => 17,
     }
 }
 

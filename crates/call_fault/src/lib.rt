@@ -7,8 +7,8 @@ ghost use Rattle.spec.specs.Fault.{faultAnswer};
 use input_catalogue::Checked;
 use spec::Fault;
 
-// The first of lines 1 to 8 that holds for a catalogue and up to three plans, the third a lead-in; a call with fewer
-// has empty ones.
+// The first of lines 1 to 8 and 17 that holds for a catalogue and up to three plans, the third a lead-in; a call with
+// fewer has empty ones.
 pub fn fault(catalogue: &[u8], v: &[u8], w: &[u8], u: &[u8]) -> Fault
     ensures { λ r. ⌜ toldFault r
         ≡ faultAnswer (now (catalogue .entry)) (now (v .entry)) (now (w .entry)) (now (u .entry)) ⌝ }

@@ -2,16 +2,14 @@
 -- gives what the whole chain gives.
 use Prim.Native.Nat.{ℕ, zero, suc, _-_, _≤_, _<_}
 use native.Mathlib.Omega.{arith}
-use mathlib.Core.Path.{_≡_, _∙_}
+use mathlib.Core.Path.{_≡_, refl, _∙_}
 use mathlib.Core.Bool.{true}
 use mathlib.Core.Logic.{_⊎_, inl, inr}
 use mathlib.Core.List.{List}
-use lib.ListN.{getD}
 use lib.Dec.{eqb}
 use borrow.Author.Tests.{ne-eqb}
-use Rattle.spec.specs.Catalogue.{commands, records, head, headPlace, command, next, ends, follow, chain}
+use Rattle.spec.specs.Catalogue.{commands, records, head, command, next, ends, follow, chain}
 use Rattle.input_catalogue.specs.Sound.{Sound}
-use Rattle.input_catalogue.specs.SoundLaws.{head-at}
 use Rattle.input_chains.specs.Marking.{Shape, pair, pairs, note, notes}
 use Rattle.input_chains.specs.MarkingLaws.{Fit, put-shape, pair-shape}
 
@@ -40,17 +38,14 @@ pub record Noting (c : List ℕ) (a : ℕ) (own₀ own : List (List ℕ)) (left 
   pub notes : notes own a (follow c left at) ≡ notes own₀ a (chain c a)
 
 module _ (c : List ℕ) (s : Sound c) (a : ℕ) (la : 1 ≤ a) (ha : a ≤ commands c) where
-  pub walk-start : (rows : List (List ℕ)) → Shape rows → Walking c a rows rows (records c) (getD c (headPlace a) 0)
-  walk-start rows sh =
-      record {
-        shape = sh;
-        within = rw (← head-at c a la ha) (s .heads a la ha);
-        ending = rw (head-at c a la ha);
-        marks = rw (head-at c a la ha);
-      }
+  pub walk-start : (rows : List (List ℕ)) → Shape rows → {left at : ℕ} → left ≡ records c → at ≡ head c a
+      → Walking c a rows rows left at
+  walk-start rows sh l e =
+      rw (l, e) (record { shape = sh; within = s .heads a la ha; ending = refl; marks = refl })
 
-  pub note-start : (own : List (List ℕ)) → Shape own → Noting c a own own (records c) (getD c (headPlace a) 0)
-  note-start own sh = record { shape = sh; notes = rw (head-at c a la ha) }
+  pub note-start : (own : List (List ℕ)) → Shape own → {left at : ℕ} → left ≡ records c → at ≡ head c a
+      → Noting c a own own left at
+  note-start own sh l e = rw (l, e) (record { shape = sh; notes = refl })
 
   pub walk-again : {rows₀ rows : List (List ℕ)} {left at : ℕ} {rows' : List (List ℕ)}
       → Walking c a rows₀ rows left at → 0 < left → 0 < at → rows' ≡ pair rows a (command c at)

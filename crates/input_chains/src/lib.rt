@@ -7,8 +7,13 @@ ghost use mathlib.Core.List.{[]};
 ghost use lib.ListN.{getD};
 ghost use Prim.Native.Nat.{_+_, _-_, _≤_};
 ghost use Rattle.spec.specs.Catalogue.{commands, records, head, ends, chain};
+ghost use Rattle.input_layout.specs.Laid.{Laid};
 ghost use Rattle.input_catalogue.specs.Sound.{Sound};
 ghost use Rattle.input_chains.specs.Marking.{Shape, pair, pairs, note, notes, members, markedIf};
+use input_layout::Layout;
+use input_layout::command_of;
+use input_layout::head_of;
+use input_layout::next_of;
 
 // Marks that two commands conflict, in the rows of both.
 fn mark(a: usize, b: usize, rows: &mut [[u16; 24]; 24])
@@ -32,22 +37,27 @@ fn meet(a: usize, b: usize, rows: &mut [[u16; 24]; 24], own: &mut [[u16; 24]; 24
 
 // Follows the chain of command a, of at most R records, and marks each command that it meets; which they are is also
 // noted in row a of own. Tells whether it ends.
-pub fn walk(c: &[u8], a: usize, rows: &mut [[u16; 24]; 24], own: &mut [[u16; 24]; 24]) -> bool
-    requires { ⌜ Sound (now c) ⌝ ∗ ⌜ Shape (now rows) ⌝ ∗ ⌜ Shape (now own) ⌝
+pub fn walk(
+    c: &[u8],
+    layout: Layout,
+    a: usize,
+    rows: &mut [[u16; 24]; 24],
+    own: &mut [[u16; 24]; 24],
+) -> bool
+    requires { ⌜ Laid (now c) layout × Sound (now c) ⌝ ∗ ⌜ Shape (now rows) ⌝ ∗ ⌜ Shape (now own) ⌝
         ∗ ⌜ 1 ≤ a ⌝ ∗ ⌜ a ≤ commands (now c) ⌝ }
     ensures { λ r. ⌜ r ≡ ends (now (c .entry)) (records (now (c .entry))) (head (now (c .entry)) a) ⌝ }
     ensures { λ _. ⌜ now (rows .exit) ≡ pairs (now (rows .entry)) a (chain (now (c .entry)) a) ⌝ }
     ensures { λ _. ⌜ now (own .exit) ≡ notes (now (own .entry)) a (chain (now (c .entry)) a) ⌝ }
 {
-    let n = c[0] as usize;
-    let mut left = c[1];
-    let mut at = c[1 + a] as usize;
+    let mut left = layout.records;
+    let mut at = head_of(c, layout, a);
     while left != 0 {
         if at == 0 {
             return true;
         }
-        meet(a, c[n + 2 * at] as usize, rows, own);
-        at = c[n + 2 * at + 1] as usize;
+        meet(a, command_of(c, layout, at), rows, own);
+        at = next_of(c, layout, at);
         left -= 1;
     }
     at == 0

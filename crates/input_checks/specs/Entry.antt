@@ -25,7 +25,7 @@ pub record Entered (c : List ℕ) (ls : List (Option Line)) (P : Type 0) (r : Ch
   pub told : Told c ls r
   pub passed : firstLine ls ≡ none → P
 
--- lines 1 to 8 for the first plan, and for both
+-- lines 1 to 8 and 17 for the first plan, and for both
 abbrev pub oneLines : List ℕ → List ℕ → List (Option Line)
 oneLines c v = catalogueLines c ++ planLines 1 planLimit (commands c) v
 

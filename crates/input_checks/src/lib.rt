@@ -31,7 +31,7 @@ fn next_plan(earlier: Checked, plan: &[u8], number: u8, limit: usize) -> Checked
     earlier
 }
 
-// Lines 1 to 8 for one plan.
+// Lines 1 to 8 and 17 for one plan.
 pub fn one_plan(catalogue: &[u8], plan: &[u8], conflicts: &mut [[u16; 24]; 24]) -> Checked
     requires { ⌜ Blank (now conflicts) ⌝ }
     ensures { λ r. ⌜ OnePlan (now (catalogue .entry)) (now (plan .entry)) (now (conflicts .exit)) r ⌝ }
@@ -39,7 +39,7 @@ pub fn one_plan(catalogue: &[u8], plan: &[u8], conflicts: &mut [[u16; 24]; 24]) 
     next_plan(input_conflicts::read(catalogue, conflicts), plan, 1, 1024)
 }
 
-// Lines 1 to 8 for two plans, the first before the second.
+// Lines 1 to 8 and 17 for two plans, the first before the second.
 pub fn two_plans(catalogue: &[u8], v: &[u8], w: &[u8], conflicts: &mut [[u16; 24]; 24]) -> Checked
     requires { ⌜ Blank (now conflicts) ⌝ }
     ensures { λ r. ⌜ TwoPlans (now (catalogue .entry)) (now (v .entry)) (now (w .entry)) (now (conflicts .exit)) r ⌝ }
@@ -47,7 +47,7 @@ pub fn two_plans(catalogue: &[u8], v: &[u8], w: &[u8], conflicts: &mut [[u16; 24
     next_plan(one_plan(catalogue, v, conflicts), w, 2, 1024)
 }
 
-// Lines 1 to 8 for two plans and a lead-in.
+// Lines 1 to 8 and 17 for two plans and a lead-in.
 pub fn three_plans(
     catalogue: &[u8],
     v: &[u8],

@@ -20,9 +20,8 @@ pub record Chained (c : List ℕ) (a : ℕ) (rows : List (List ℕ)) : Type 0 wh
   pub marks : (i j : ℕ) → i < 24 → j < 24 → cell rows i j ≡ yesNo (met c a i j)
 
 -- no command is known for any head
-pub record NoneKnown (firsts : List ℕ) : Type 0 where
-  pub many : length firsts ≡ 256
-  pub clear : (h : ℕ) → h < 256 → getD firsts h 0 ≡ 0
+abbrev pub NoneKnown : List ℕ → Type 0
+NoneKnown firsts = (h : ℕ) → getD firsts h 0 ≡ 0
 
 -- command b, below a, has this head; its chain ends, and row b tells who stands in it
 pub record Walked (c : List ℕ) (a : ℕ) (own : List (List ℕ)) (h b : ℕ) : Type 0 where
@@ -35,6 +34,6 @@ pub record Walked (c : List ℕ) (a : ℕ) (own : List (List ℕ)) (h b : ℕ) :
 -- the first command below a with each head, or 0; the rows of a and above are blank
 pub record Known (c : List ℕ) (a : ℕ) (own : List (List ℕ)) (firsts : List ℕ) : Type 0 where
   pub shape : Shape own
-  pub many : length firsts ≡ 256
+  pub room : records c < length firsts
   pub blank : (i j : ℕ) → a ≤ i + 1 → i < 24 → j < 24 → cell own i j ≡ 0
-  pub walked : (h : ℕ) → h < 256 → 0 < getD firsts h 0 → Walked c a own h (getD firsts h 0)
+  pub walked : (h : ℕ) → 0 < getD firsts h 0 → Walked c a own h (getD firsts h 0)

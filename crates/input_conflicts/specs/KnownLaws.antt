@@ -1,19 +1,18 @@
 -- A chain that several commands have: the members that one row tells are marked as the chain itself would be, and what
 -- is known of each head stays known.
-use Prim.Native.Nat.{ℕ, _+_, _-_, _≤_, _<_}
+use Prim.Native.Nat.{ℕ, zero, suc, _+_, _-_, _≤_, _<_}
 use native.Mathlib.Decide.{ℕ-discrete, decLt}
 use native.Mathlib.Omega.{arith}
 use mathlib.Core.Path.{_≡_, refl, sym, _∙_, ap, subst}
 use mathlib.Core.Bool.{Bool, true, false, _||_, _&&_, or-false}
 use mathlib.Core.List.{List, []}
-use lib.ListN.{length, getD, set, replicate, length-set, getD-replicate}
+use lib.ListN.{length, getD, set, replicate, length-set}
 use lib.Seq.{getD-set-same, getD-set-other}
 use lib.Dec.{eqb}
 use borrow.Author.Tests.{eq-eqb, ne-eqb}
-use Rattle.spec.specs.Catalogue.{commands, records, head, headPlace, ends, chain, stands}
+use Rattle.spec.specs.Catalogue.{commands, records, head, ends, chain, stands}
 use Rattle.spec.specs.Answers.{yesNo}
 use Rattle.input_catalogue.specs.Sound.{Sound}
-use Rattle.input_catalogue.specs.SoundLaws.{head-at}
 use Rattle.input_chains.specs.Marking.{cell, pairs, notes, members}
 use Rattle.input_conflicts.specs.MarkedRows.{Blank}
 use Rattle.input_chains.specs.MarkingLaws.{Fit, notes-shape, notes-cell}
@@ -24,24 +23,26 @@ use Rattle.input_conflicts.specs.ChainLaws.{chained-again}
 
 -- what is known of the heads
 
-pub none-known : NoneKnown (replicate 256 0)
-none-known = record { many = refl; clear = λ h l. getD-replicate 256 h 0 0 l }
+pub none-known : (n : ℕ) → NoneKnown (replicate n 0)
+none-known zero h = refl
+none-known (suc n) zero = refl
+none-known (suc n) (suc h) = none-known n h
 
 pub known-start : (c : List ℕ) {own : List (List ℕ)} {firsts : List ℕ} → Blank own → NoneKnown firsts
-    → Known c 1 own firsts
-known-start c b n = record {
+    → records c < length firsts → Known c 1 own firsts
+known-start c b n r = record {
   shape = b .shape;
-  many = n .many;
+  room = r;
   blank = λ i j l hi hj. b .clear i j hi hj;
-  walked = λ h l p. absurd (omega (arith, n .clear h l));
+  walked = λ h p. absurd (omega (arith, n h));
 }
 
 pub known-below : {c : List ℕ} {a : ℕ} {own : List (List ℕ)} {firsts : List ℕ} → Known c a own firsts
-    → (h : ℕ) → h < 256 → getD firsts h 0 ≤ a
-known-below {a = a} {firsts = firsts} k h l = go (decLt 0 (getD firsts h 0))
+    → (h : ℕ) → getD firsts h 0 ≤ a
+known-below {a = a} {firsts = firsts} k h = go (decLt 0 (getD firsts h 0))
   where
     go : Dec (0 < getD firsts h 0) → getD firsts h 0 ≤ a
-    go (yes p) = omega (arith, k .walked h l p .below)
+    go (yes p) = omega (arith, k .walked h p .below)
     go (no p) = omega arith
 
 module _ (c : List ℕ) (s : Sound c) (a : ℕ) (la : 1 ≤ a) (ha : a ≤ commands c) where
@@ -58,9 +59,9 @@ module _ (c : List ℕ) (s : Sound c) (a : ℕ) (la : 1 ≤ a) (ha : a ≤ comma
 
   -- the head was met before, at command b
   module _ {own : List (List ℕ)} {firsts : List ℕ} (k : Known c a own firsts) {h b : ℕ}
-      (eh : h ≡ getD c (headPlace a) 0) (w : Walked c a own h b) where
+      (eh : h ≡ head c a) (w : Walked c a own h b) where
     same-head : head c a ≡ head c b
-    same-head = head-at c a la ha ∙ sym eh ∙ sym (w .heads)
+    same-head = sym eh ∙ sym (w .heads)
 
     pub like-ends : true ≡ ends c (records c) (head c a)
     like-ends = sym (ap (ends c (records c)) (same-head ∙ w .heads) ∙ w .ending)
@@ -90,9 +91,9 @@ module _ (c : List ℕ) (s : Sound c) (a : ℕ) (la : 1 ≤ a) (ha : a ≤ comma
   pub like-known : {own : List (List ℕ)} {firsts : List ℕ} → Known c a own firsts → Known c (a + 1) own firsts
   like-known k = record {
     shape = k .shape;
-    many = k .many;
+    room = k .room;
     blank = λ i j l hi hj. k .blank i j (omega arith) hi hj;
-    walked = λ h l p. later (k .walked h l p);
+    walked = λ h p. later (k .walked h p);
   }
     where
       later : {own : List (List ℕ)} {h b : ℕ} → Walked c a own h b → Walked c (a + 1) own h b
@@ -106,15 +107,15 @@ module _ (c : List ℕ) (s : Sound c) (a : ℕ) (la : 1 ≤ a) (ha : a ≤ comma
 
   -- the head of a is known now
   pub walked-known : {own own' : List (List ℕ)} {firsts : List ℕ} {h : ℕ} → Known c a own firsts
-      → h ≡ getD c (headPlace a) 0 → h < 256 → own' ≡ notes own a (chain c a) → true ≡ ends c (records c) (head c a)
+      → h ≡ head c a → own' ≡ notes own a (chain c a) → true ≡ ends c (records c) (head c a)
       → Known c (a + 1) own' (set firsts h a)
-  walked-known {own} {firsts = firsts} {h = h} k eh lh e t = rw e
+  walked-known {own} {firsts = firsts} {h = h} k eh e t = rw e
       (record {
         shape = notes-shape a (la, few) (chain c a) own chain-fit (k .shape);
-        many = length-set firsts h a ∙ k .many;
+        room = rw (length-set firsts h a) (k .room);
         blank = λ i j l hi hj.
             other i j hi hj (λ z. omega arith) false (k .blank i j (omega arith) hi hj);
-        walked = λ x lx p. go x lx p (ℕ-discrete x h);
+        walked = λ x p. go x p (ℕ-discrete x h);
       })
     where
       cells : (i j : ℕ) → i < 24 → j < 24 → (q : Bool) → cell own i j ≡ yesNo q
@@ -125,25 +126,28 @@ module _ (c : List ℕ) (s : Sound c) (a : ℕ) (la : 1 ≤ a) (ha : a ≤ comma
           → cell (notes own a (chain c a)) i j ≡ yesNo q
       other i j hi hj n q f = cells i j hi hj q f ∙ rw (ne-eqb (i + 1) a n)
 
-      go : (x : ℕ) → x < 256 → 0 < getD (set firsts h a) x 0 → Dec (x ≡ h)
+      here : h < length firsts
+      here = omega (arith, k .room, s .heads a la ha, eh)
+
+      go : (x : ℕ) → 0 < getD (set firsts h a) x 0 → Dec (x ≡ h)
           → Walked c (a + 1) (notes own a (chain c a)) x (getD (set firsts h a) x 0)
-      go x lx p (yes z) =
+      go x p (yes z) =
           let g : getD (set firsts h a) x 0 ≡ a
-          = ap (λ (y : ℕ). getD (set firsts h a) y 0) z ∙ getD-set-same firsts h a 0 (omega (arith, k .many)) in
+          = ap (λ (y : ℕ). getD (set firsts h a) y 0) z ∙ getD-set-same firsts h a 0 here in
           rw g
           (record {
             one = la;
             below = omega arith;
-            heads = head-at c a la ha ∙ sym eh ∙ sym z;
-            ending = ap (ends c (records c)) (z ∙ eh ∙ sym (head-at c a la ha)) ∙ sym t;
+            heads = sym eh ∙ sym z;
+            ending = ap (ends c (records c)) (z ∙ eh) ∙ sym t;
             tells = λ j hj.
                 let m : a - 1 + 1 ≡ a = omega arith in
                 cells (a - 1) j (omega (arith, few)) hj false (k .blank (a - 1) j (omega arith) (omega (arith, few)) hj)
                 ∙ rw (m, eq-eqb a a refl, or-false);
           })
-      go x lx p (no z) =
+      go x p (no z) =
           let g : getD (set firsts h a) x 0 ≡ getD firsts x 0 = getD-set-other firsts h x a 0 z in
-          let w = k .walked x lx (subst (λ (n : ℕ). 0 < n) g p) in
+          let w = k .walked x (subst (λ (n : ℕ). 0 < n) g p) in
           rw g
           (record {
             one = w .one;

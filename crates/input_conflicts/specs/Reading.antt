@@ -1,4 +1,5 @@
--- What the call that reads a catalogue promises: the answer that lines 1 to 6 give, and the conflicts where none holds.
+-- What the call that reads a catalogue promises: the answer that lines 1 to 6 and 17 give, and the conflicts where
+-- none holds.
 use Prim.Native.Nat.{ℕ}
 use mathlib.Core.Path.{_≡_}
 use mathlib.Core.List.{List}

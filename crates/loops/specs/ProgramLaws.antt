@@ -26,7 +26,7 @@ use Rattle.spec.specs.declared.Written.the-variants as written
 use Rattle.spec.specs.declared.Loops.{Loops}
 use Rattle.spec.specs.declared.Loops.the-variants as loops
 use Rattle.loops_framing.specs.Frame.{frame}
-use Rattle.loops_framing.specs.FramingLaws.{badly-tells, well-tells, Laid, laid-catalogue, laid-plan1, laid-plan2}
+use Rattle.loops_framing.specs.FramingLaws.{badly-tells, well-tells, Cut, cut-catalogue, cut-plan1, cut-plan2}
 use Rattle.loops_framing.specs.declared.Frame.{Frame}
 use Rattle.loops_framing.specs.declared.Frame.the-variants.{Badly, Well}
 use Rattle.loops_framing.specs.declared.Places.{Places}
@@ -131,12 +131,12 @@ module _ (s : List ℕ) {r : Frame} (e : r ≡ frame s) where
   pub badly-answer : (f : Refusal) → lineOf f ≡ line 11 0 0 → r ≡ Badly → refused (lineOf f) ≡ programAnswer s
   badly-answer f k b = rw (badly-tells s (sym b ∙ e)) (ap refused k)
 
-  pub well-laid : {p : Places} → r ≡ Well p → Laid s p
+  pub well-laid : {p : Places} → r ≡ Well p → Cut s p
   well-laid {p} b = well-tells s p (sym b ∙ e)
 
-pub well-answer : (s : List ℕ) (p : Places) (l : Laid s p)
+pub well-answer : (s : List ℕ) (p : Places) (l : Cut s p)
     → loopsVerdict (take (p .first) s) (take (p .second - (p .first + 2)) (drop (p .first + 2) s))
     (take (length s - (p .second + 2)) (drop (p .second + 2) s))
     ≡ programAnswer s
 well-answer s p l =
-    rw (laid-catalogue s p l, laid-plan1 s p l, laid-plan2 s p l, l .well)
+    rw (cut-catalogue s p l, cut-plan1 s p l, cut-plan2 s p l, l .well)

@@ -32,10 +32,10 @@ fn lead_in_area() -> [u8; 49152]
 }
 
 // Room for the longest input, and one byte to tell a longer one.
-fn input_area() -> [u8; 4097]
-    ensures { λ r. ⌜ 4097 ≡ length r ⌝ }
+fn input_area() -> [u8; 8193]
+    ensures { λ r. ⌜ 8193 ≡ length r ⌝ }
 {
-    [0; 4097]
+    [0; 8193]
 }
 
 // Line 11.

@@ -14,14 +14,16 @@ use borrow.Author.Tests.{le-leb, lt-leb, leb-true, eq-eqb, ne-eqb, eqb-true}
 use Rattle.theory_words.specs.BoolLaws.{and-both}
 use Rattle.loops_framing.specs.declared.Frame.the-variants.{Badly, Well}
 use Rattle.loops_framing.specs.declared.Places.{Places}
+use Rattle.spec.specs.Layout.{byteAt, isSecond, layout-step}
+use Rattle.spec_laws.specs.LayoutLaws.{start-within}
 use Rattle.spec.specs.Framing.{catalogueLength, Counted, counted, Framed, countAt, planAt, planEnd, secondPlace}
 use Rattle.spec.specs.Framing.{wellFramed, catalogueOf, plan1Of, plan2Of}
 use Rattle.loops_framing.specs.Frame.{frame-step, frame}
 
 -- What the code's tests tell
 
-pub long-badly : (s : List ℕ) → 4096 < length s → Badly ≡ frame s
-long-badly s h = simp (lt-leb (length s) 4096 h)
+pub long-badly : (s : List ℕ) → 8192 < length s → Badly ≡ frame s
+long-badly s h = simp (lt-leb (length s) 8192 h)
 
 and-right : (b : Bool) → (b && false) ≡ false
 and-right true = refl
@@ -38,9 +40,9 @@ module _ (s : List ℕ) {first second end : ℕ} (f : first ≡ catalogueLength 
   pub other-badly : (end ≡ length s → ⊥) → Badly ≡ frame s
   other-badly d =
       let t : eqb (planEnd s (secondPlace s)) (length s) ≡ false = ne-eqb _ _ (λ e. d (ends ∙ e)) in
-      simp (t, and-right (leb (length s) 4096))
+      simp (t, and-right (leb (length s) 8192))
 
-  pub whole-well : length s ≤ 4096 → end ≡ length s → Well (record { first = first; second = second }) ≡ frame s
+  pub whole-well : length s ≤ 8192 → end ≡ length s → Well (record { first = first; second = second }) ≡ frame s
   whole-well l e =
       let t : eqb (planEnd s (secondPlace s)) (length s) ≡ true = eq-eqb _ _ (sym ends ∙ e) in
       simp (t, le-leb _ _ l, f, second-place)
@@ -100,13 +102,27 @@ module _ (s : List ℕ) (i : ℕ) where
       rest : drop (i + 2) s ≡ v ++ q
       rest = sym (drop-drop 2 i s) ∙ ap (drop 2) d
 
+-- The length of a catalogue, from its first bytes alone
+
+module _ (c d : List ℕ) where
+  size-step : (t : Bool) → ((i : ℕ) → i < layout-step t c .start → byteAt d i ≡ byteAt c i)
+      → layout-step t d .size ≡ layout-step t c .size
+  size-step false e = ap₂ (λ n r. 2 + n + 2 * r) (e 0 (omega arith)) (e 1 (omega arith))
+  size-step true e = omega (arith, e 0 (omega arith), e 1 (omega arith), e 2 (omega arith))
+
+  length-same : ((i : ℕ) → i < catalogueLength c → byteAt d i ≡ byteAt c i) → catalogueLength d ≡ catalogueLength c
+  length-same e =
+      let h = start-within c in
+      let f : isSecond d ≡ isSecond c = ap (leb 128) (e 0 (omega (arith, h))) in
+      ap (λ (t : Bool). layout-step t d .size) f ∙ size-step (isSecond c) (λ i l. e i (omega (arith, h)))
+
 -- Well framed, by computing and by lists
 
 -- a well framed input ends where its second plan does
 pub well-ends : (s : List ℕ) → wellFramed s ≡ true → planEnd s (secondPlace s) ≡ length s
 well-ends s t =
     eqb-true (planEnd s (secondPlace s)) (length s)
-    (and-both (leb (length s) 4096) (eqb (planEnd s (secondPlace s)) (length s)) t .1)
+    (and-both (leb (length s) 8192) (eqb (planEnd s (secondPlace s)) (length s)) t .1)
 
 pub framed-parts : (s : List ℕ) → wellFramed s ≡ true → Framed s (catalogueOf s) (plan1Of s) (plan2Of s)
 framed-parts s t = record {
@@ -119,16 +135,14 @@ framed-parts s t = record {
       ∙ ap (λ r. catalogueOf s ++ x .0 ++ r) last;
   catalogue =
       length-take-le (catalogueLength s) s (omega (arith, end))
-      ∙ ap₂ (λ a b. 2 + a + 2 * b)
-      (sym (getD-take (catalogueLength s) s 0 0 (omega arith)))
-      (sym (getD-take (catalogueLength s) s 1 0 (omega arith)));
+      ∙ sym (length-same s (catalogueOf s) (λ i h. getD-take (catalogueLength s) s i 0 h));
   plan1 = x .1;
   plan2 = y .1;
-  limit = leb-true (length s) 4096 (tests .0);
+  limit = leb-true (length s) 8192 (tests .0);
 }
   where
-    tests : (leb (length s) 4096 ≡ true) × (eqb (planEnd s (secondPlace s)) (length s) ≡ true)
-    tests = and-both (leb (length s) 4096) (eqb (planEnd s (secondPlace s)) (length s)) t
+    tests : (leb (length s) 8192 ≡ true) × (eqb (planEnd s (secondPlace s)) (length s) ≡ true)
+    tests = and-both (leb (length s) 8192) (eqb (planEnd s (secondPlace s)) (length s)) t
 
     end : planEnd s (secondPlace s) ≡ length s
     end = well-ends s t
@@ -145,7 +159,7 @@ framed-parts s t = record {
 pub framed-well : {s c v w : List ℕ} → Framed s c v w
     → (wellFramed s ≡ true) × (catalogueOf s ≡ c) × (plan1Of s ≡ v) × (plan2Of s ≡ w)
 framed-well {s} {c} {v} {w} f = (
-  ap₂ (λ a b. a && b) (le-leb (length s) 4096 (f .limit)) (eq-eqb (planEnd s (secondPlace s)) (length s) end),
+  ap₂ (λ a b. a && b) (le-leb (length s) 8192 (f .limit)) (eq-eqb (planEnd s (secondPlace s)) (length s) end),
   ap₂ take start rest ∙ take-append-seam c (x ++ y),
   first .0,
   second .0,
@@ -164,11 +178,7 @@ framed-well {s} {c} {v} {w} f = (
     at i h = ap (λ r. getD r i 0) rest ∙ List·getD-append c (x ++ y) 0 i h
 
     start : catalogueLength s ≡ length c
-    start =
-        ap₂ (λ a b. 2 + a + 2 * b)
-        (at 0 (omega (arith, f .catalogue)))
-        (at 1 (omega (arith, f .catalogue)))
-        ∙ sym (f .catalogue)
+    start = length-same c s (λ i h. at i (omega (arith, f .catalogue))) ∙ sym (f .catalogue)
 
     first : (plan1Of s ≡ v) × (secondPlace s ≡ catalogueLength s + length x) × (drop (secondPlace s) s ≡ y)
     first = counted-there s (catalogueLength s) (f .plan1) (ap₂ drop start rest ∙ drop-append-seam c (x ++ y))
@@ -204,13 +214,13 @@ pub badly-tells : (s : List ℕ) → Badly ≡ frame s → wellFramed s ≡ fals
 badly-tells s e = step-badly (wellFramed s) s e
 
 -- the places of a well framed input, by what lies between them
-pub record Laid (s : List ℕ) (p : Places) : Type 0 where
+pub record Cut (s : List ℕ) (p : Places) : Type 0 where
   pub well : wellFramed s ≡ true
   pub first : p .first ≡ catalogueLength s
   pub second : p .second ≡ p .first + 2 + countAt s (p .first)
   pub end : length s ≡ p .second + 2 + countAt s (p .second)
 
-pub well-tells : (s : List ℕ) (p : Places) → Well p ≡ frame s → Laid s p
+pub well-tells : (s : List ℕ) (p : Places) → Well p ≡ frame s → Cut s p
 well-tells s p e = record {
   well = told .0;
   first = first;
@@ -227,18 +237,18 @@ well-tells s p e = record {
     second : p .second ≡ secondPlace s
     second = ap (λ q. q .second) (told .1)
 
-module _ (s : List ℕ) (p : Places) (l : Laid s p) where
+module _ (s : List ℕ) (p : Places) (l : Cut s p) where
   -- the three parts, as the program cuts them
-  pub laid-catalogue : take (p .first) s ≡ catalogueOf s
-  laid-catalogue = ap (λ n. take n s) (l .first)
+  pub cut-catalogue : take (p .first) s ≡ catalogueOf s
+  cut-catalogue = ap (λ n. take n s) (l .first)
 
-  pub laid-plan1 : take (p .second - (p .first + 2)) (drop (p .first + 2) s) ≡ plan1Of s
-  laid-plan1 =
+  pub cut-plan1 : take (p .second - (p .first + 2)) (drop (p .first + 2) s) ≡ plan1Of s
+  cut-plan1 =
       let n : p .second - (p .first + 2) ≡ countAt s (p .first) = omega (arith, l .second) in
       ap (λ k. take k (drop (p .first + 2) s)) n ∙ ap (planAt s) (l .first)
 
-  pub laid-plan2 : take (length s - (p .second + 2)) (drop (p .second + 2) s) ≡ plan2Of s
-  laid-plan2 =
+  pub cut-plan2 : take (length s - (p .second + 2)) (drop (p .second + 2) s) ≡ plan2Of s
+  cut-plan2 =
       let n : length s - (p .second + 2) ≡ countAt s (p .second) = omega (arith, l .end) in
       ap (λ k. take k (drop (p .second + 2) s)) n
       ∙ ap (planAt s) (l .second ∙ ap (planEnd s) (l .first))

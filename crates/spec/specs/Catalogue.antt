@@ -1,29 +1,30 @@
--- The catalogue's layout (docs/MANUAL.md, "Catalogue"), and lines 1 to 6 of the manual's table over any bytes.
--- Byte 0 is N, byte 1 is R, then N heads, then R records of two bytes: a command and the index of the next record.
-use Prim.Native.Nat.{ℕ, zero, suc, _+_, _*_}
+-- What a catalogue says, by its layout (Layout), and lines 1 to 6 and 17 of the manual's table over any bytes.
+use Prim.Native.Nat.{ℕ, zero, suc, _+_}
 use mathlib.Core.Bool.{Bool, true, false, not, _&&_, _||_}
 use mathlib.Core.List.{List, [], _∷_}
 use mathlib.Core.Option.{Option, none, some}
-use lib.ListN.{length, getD}
+use lib.ListN.{length}
 use lib.Dec.{leb, ltb, eqb}
 use Rattle.spec.specs.Table.{Line, line, holds, firstOf, lineAt}
+use Rattle.spec.specs.Layout.{byteAt, layout}
 
 -- N and R
 abbrev pub commands : List ℕ → ℕ
-commands c = getD c 0 0
+commands c = layout c .commands
 
 abbrev pub records : List ℕ → ℕ
-records c = getD c 1 0
+records c = layout c .records
 
--- the places of the head of command a, and of the two bytes of record j; commands and records are numbered from 1
-abbrev pub headPlace : ℕ → ℕ
-headPlace a = 1 + a
+-- the places of the head of command a, and of the command and the next index of record j; an index of two bytes has the
+-- place of its low byte
+abbrev pub headPlace : List ℕ → ℕ → ℕ
+headPlace c a = layout c .headPlace a
 
 abbrev pub commandPlace : List ℕ → ℕ → ℕ
-commandPlace c j = commands c + 2 * j
+commandPlace c j = layout c .commandPlace j
 
 abbrev pub nextPlace : List ℕ → ℕ → ℕ
-nextPlace c j = commands c + 2 * j + 1
+nextPlace c j = commandPlace c j + 1
 
 abbrev pub within : ℕ → ℕ → ℕ → Bool
 within low high b = leb low b && leb b high
@@ -34,13 +35,13 @@ head-step true h = h
 head-step false h = 0
 
 abbrev pub head : List ℕ → ℕ → ℕ
-head c a = head-step (within 1 (commands c) a) (getD c (headPlace a) 0)
+head c a = head-step (within 1 (commands c) a) (layout c .indexAt (headPlace c a))
 
 abbrev pub command : List ℕ → ℕ → ℕ
-command c j = getD c (commandPlace c j) 0
+command c j = byteAt c (commandPlace c j)
 
 abbrev pub next : List ℕ → ℕ → ℕ
-next c j = getD c (nextPlace c j) 0
+next c j = layout c .indexAt (nextPlace c j)
 
 -- does the chain from index i reach index 0 within n records
 unfoldable pub ends : List ℕ → ℕ → ℕ → Bool
@@ -63,13 +64,17 @@ unfoldable pub stands : ℕ → List ℕ → Bool
 stands a [] = false
 stands a (b ∷ bs) = eqb a b || stands a bs
 
--- line 1: under 2 bytes, or not 2 + N + 2R
+-- line 1: under 2 bytes, or not 2 + N + 2R; in the second edition under 3, or not 3 + 2N + 3R
 abbrev pub sizeLine : List ℕ → Option Line
-sizeLine c = holds (ltb (length c) 2 || not (eqb (length c) (2 + commands c + 2 * records c))) (line 1 0 0)
+sizeLine c = holds (ltb (length c) (layout c .start) || not (eqb (length c) (layout c .size))) (line 1 0 0)
 
 -- line 2: N above 24
 abbrev pub countLine : List ℕ → Option Line
 countLine c = holds (ltb 24 (commands c)) (line 2 0 0)
+
+-- line 17: R above 1,024, which one byte cannot tell
+abbrev pub recordsLine : List ℕ → Option Line
+recordsLine c = holds (ltb 1024 (records c)) (line 17 0 1)
 
 abbrev pub orIf : Option Line → Option Line → Option Line
 orIf none o = o
@@ -77,7 +82,7 @@ orIf (some l) o = some l
 
 -- line 3: the first head or next index above R
 abbrev pub headLine : List ℕ → Option Line
-headLine c = lineAt 3 0 headPlace (firstOf (λ a. ltb (records c) (head c a)) (commands c) 1)
+headLine c = lineAt 3 0 (headPlace c) (firstOf (λ a. ltb (records c) (head c a)) (commands c) 1)
 
 abbrev pub nextLine : List ℕ → Option Line
 nextLine c = lineAt 3 0 (nextPlace c) (firstOf (λ j. ltb (records c) (next c j)) (records c) 1)
@@ -93,12 +98,13 @@ recordLine c =
 
 -- line 5: the first command whose chain doesn't end
 abbrev pub endlessLine : List ℕ → Option Line
-endlessLine c = lineAt 5 0 headPlace (firstOf (λ a. not (ends c (records c) (head c a))) (commands c) 1)
+endlessLine c = lineAt 5 0 (headPlace c) (firstOf (λ a. not (ends c (records c) (head c a))) (commands c) 1)
 
 -- line 6: the first command that stands in its own chain
 abbrev pub ownLine : List ℕ → Option Line
-ownLine c = lineAt 6 0 headPlace (firstOf (λ a. stands a (chain c a)) (commands c) 1)
+ownLine c = lineAt 6 0 (headPlace c) (firstOf (λ a. stands a (chain c a)) (commands c) 1)
 
--- lines 1 to 6, in the table's order
+-- lines 1, 2, 17 and 3 to 6, in the table's order
 abbrev pub catalogueLines : List ℕ → List (Option Line)
-catalogueLines c = sizeLine c ∷ countLine c ∷ indexLine c ∷ recordLine c ∷ endlessLine c ∷ ownLine c ∷ []
+catalogueLines c =
+    sizeLine c ∷ countLine c ∷ recordsLine c ∷ indexLine c ∷ recordLine c ∷ endlessLine c ∷ ownLine c ∷ []

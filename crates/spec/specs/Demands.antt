@@ -202,13 +202,13 @@ pub record Explains (c v w u : List ℕ) (ls : List (Option Line)) : Type 0 wher
   pub refuses : (l : Line) → faultAnswer c v w u ≡ some l → FirstHolds l ls
   pub else-area : faultAnswer c v w u ≡ none → (l : Line) → FirstHolds l ls → l .number ≡ 9
 
--- The fault call tells exactly the first of lines 1 to 8 that holds, of the catalogue or of plan 1, 2 or 3, and so it
--- explains each refusal of each call, with empty plans where the call has fewer (PairsDemand has line 12,
+-- The fault call tells exactly the first of lines 1 to 8 and 17 that holds, of the catalogue or of plan 1, 2 or 3, and
+-- so it explains each refusal of each call, with empty plans where the call has fewer (PairsDemand has line 12,
 -- PrecedenceDemand line 16).
 pub record FaultDemand : Type 0 where
   pub exactly : (c v w u : List ℕ) (l : Line) → (faultAnswer c v w u ≡ some l) ↔ FirstHolds l (faultLines c v w u)
   pub among : (c v w u : List ℕ) (l : Line) → faultAnswer c v w u ≡ some l
-      → (1 ≤ l .number) × (l .number ≤ 8) × (l .plan ≤ 3)
+      → (((1 ≤ l .number) × (l .number ≤ 8)) ⊎ (l .number ≡ 17)) × (l .plan ≤ 3)
   pub catalogue : (c : List ℕ) → Explains c [] [] [] (catalogueLines c)
   pub form : (c v area : List ℕ) → Explains c v [] [] (normalFormLines c v area)
   pub slots : (c v area numbers : List ℕ) → Explains c v [] [] (slotsLines c v area numbers)

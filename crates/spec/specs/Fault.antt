@@ -8,7 +8,7 @@ use Rattle.spec.specs.Plan.{planLines}
 use Rattle.spec.specs.Calls.{planLimit}
 use Rattle.spec.specs.Loops.{leadInLimit}
 
--- lines 1 to 8
+-- lines 1 to 8 and 17
 abbrev pub faultLines : List ℕ → List ℕ → List ℕ → List ℕ → List (Option Line)
 faultLines c v w u =
     catalogueLines c ++ planLines 1 planLimit (commands c) v ++ planLines 2 planLimit (commands c) w

@@ -1,16 +1,17 @@
--- The input of the program loops (docs/MANUAL.md, "Program"): a catalogue, whose length its first two bytes tell, then
--- for each of two plans a count in two bytes, low byte first, and that many bytes; nothing after, and at most 4,096
--- bytes in all.
+-- The input of the program loops (docs/MANUAL.md, "Program"): a catalogue of either edition, whose length its first two
+-- or three bytes tell, then for each of two plans a count in two bytes, low byte first, and that many bytes; nothing
+-- after, and at most 8,192 bytes in all.
 use Prim.Native.Nat.{ℕ, _+_, _*_, _≤_}
 use mathlib.Core.Path.{_≡_}
 use mathlib.Core.Bool.{Bool, _&&_}
 use mathlib.Core.List.{List, _∷_, _++_}
-use lib.ListN.{length, getD, take, drop}
+use lib.ListN.{length, take, drop}
 use lib.Dec.{leb, eqb}
+use Rattle.spec.specs.Layout.{pairAt, layout}
 
--- the length that its first two bytes give a catalogue: 2 + N + 2R
+-- the length that its first bytes give a catalogue
 abbrev pub catalogueLength : List ℕ → ℕ
-catalogueLength s = 2 + getD s 0 0 + 2 * getD s 1 0
+catalogueLength s = layout s .size
 
 -- a plan behind its count in two bytes, low byte first
 pub data Counted : List ℕ → List ℕ → Type 0 where
@@ -24,13 +25,13 @@ pub record Framed (s c v w : List ℕ) : Type 0 where
   pub catalogue : length c ≡ catalogueLength c
   pub plan1 : Counted v first
   pub plan2 : Counted w second
-  pub limit : length s ≤ 4096
+  pub limit : length s ≤ 8192
 
 -- The same by computing; a byte past the end counts as 0.
 
 -- the count at place i, the plan behind it, and where that ends
 abbrev pub countAt : List ℕ → ℕ → ℕ
-countAt s i = getD s i 0 + 256 * getD s (i + 1) 0
+countAt s i = pairAt s i
 
 abbrev pub planAt : List ℕ → ℕ → List ℕ
 planAt s i = take (countAt s i) (drop (i + 2) s)
@@ -44,7 +45,7 @@ secondPlace s = planEnd s (catalogueLength s)
 
 -- the parts make up the whole input, which is not too long
 abbrev pub wellFramed : List ℕ → Bool
-wellFramed s = leb (length s) 4096 && eqb (planEnd s (secondPlace s)) (length s)
+wellFramed s = leb (length s) 8192 && eqb (planEnd s (secondPlace s)) (length s)
 
 -- the parts of a well framed input
 abbrev pub catalogueOf : List ℕ → List ℕ

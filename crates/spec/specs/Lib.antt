@@ -1,5 +1,6 @@
 -- What a reader must believe, in the order to read it.
 pub mod Table
+pub mod Layout
 pub mod Catalogue
 pub mod Conflict
 pub mod Plan

@@ -9,6 +9,7 @@ use Rattle.spec.specs.declared.Reason.{Reason}
 use Rattle.spec.specs.declared.Reason.the-variants.{CatalogueSize, CommandCount, Index, RecordCommand}
 use Rattle.spec.specs.declared.Reason.the-variants.{EndlessChain, OwnChain, PlanSize, PlanByte, AreaSize}
 use Rattle.spec.specs.declared.Reason.the-variants.{Framing, PairsSize, Text, Nesting, WrittenSize, Places}
+use Rattle.spec.specs.declared.Reason.the-variants.{RecordCount}
 use Rattle.spec.specs.declared.Refusal.{Refusal}
 
 -- number, plan and place, as the table has them
@@ -37,6 +38,7 @@ numberOf Text = 13
 numberOf Nesting = 14
 numberOf WrittenSize = 15
 numberOf Places = 16
+numberOf RecordCount = 17
 
 abbrev pub lineOf : Refusal → Line
 lineOf r = line (numberOf (r .reason)) (r .plan) (r .place)

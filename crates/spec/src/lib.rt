@@ -2,8 +2,8 @@
 // manual says (docs/MANUAL.md), with the statements of the demands (specs/Demands.antt). The crate spec_laws proves
 // those statements.
 
-// The lines of the manual's table, in its order (docs/MANUAL.md, "Refusals"). Number 10 is retired and not used again
-// (specs/Retired.antt).
+// The lines of the manual's table, in the order of their numbers (docs/MANUAL.md, "Refusals"). Number 10 is retired and
+// not used again (specs/Retired.antt).
 pub enum Reason {
     CatalogueSize,
     CommandCount,
@@ -20,6 +20,7 @@ pub enum Reason {
     Nesting,
     WrittenSize,
     Places,
+    RecordCount,
 }
 
 // plan is 1, 2 or 3 in the order given, and 0 for the catalogue, for areas and for places. place counts from 0: it is

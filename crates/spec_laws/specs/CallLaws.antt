@@ -13,7 +13,7 @@ use Rattle.theory_words.specs.Alike.{alike?}
 use Rattle.theory_words.specs.AlikeLaws.{alike-exact}
 use Rattle.spec.specs.Table.{Line, line, holds, refused, given, firstLine, orElse}
 use Rattle.spec_laws.specs.TableLaws.{none-holds}
-use Rattle.spec.specs.Catalogue.{commands, countLine, catalogueLines}
+use Rattle.spec.specs.Catalogue.{commands, orIf, countLine, catalogueLines}
 
 module _ {A : Type 0} where
   pub answer-refused : (o : Option Line) (a : A) (l : Line) → (orElse o a ≡ refused l) ↔ (o ≡ some l)
@@ -30,6 +30,10 @@ module _ {A : Type 0} where
 pub holds-none : (t : Bool) (l : Line) → holds t l ≡ none → t ≡ false
 holds-none true l e = absurd (let z : _≡_ {A = ℕ} 0 1 = cc in omega arith)
 holds-none false l e = refl
+
+pub or-none : (o p : Option Line) → orIf o p ≡ none → (o ≡ none) × (p ≡ none)
+or-none none p e = (refl, e)
+or-none (some l) p e = absurd (let z : _≡_ {A = ℕ} 0 1 = cc in omega arith)
 
 -- a catalogue that line 2 does not refuse has at most 24 commands
 pub counted-few : (c : List ℕ) → countLine c ≡ none → commands c ≤ 24

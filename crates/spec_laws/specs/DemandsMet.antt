@@ -4,7 +4,7 @@ use mathlib.Core.Path.{_≡_, refl, sym, _∙_, ap, subst}
 use mathlib.Core.Bool.{Bool, true, false}
 use mathlib.Core.List.{List, [], _∷_, _++_}
 use mathlib.Core.Option.{Option, none, some}
-use mathlib.Core.Logic.{_↔_}
+use mathlib.Core.Logic.{_↔_, inl}
 use native.Mathlib.Omega.{arith}
 use lib.ListN.{length, take, drop, getD}
 use lib.Dec.{ltb}
@@ -385,8 +385,10 @@ demand-program = record { verdict = verdict-printed; either-core = verdict-cores
 loops-settled : (c v w area : List ℕ) (p i : ℕ)
     → ¬ FirstHolds (line 10 p i) (loopsLines c v w area ++ unsettledLines c v w)
 loops-settled c v w area =
-    never-ten c v w (areaLine 0 (leadInRoom c v w) area ∷ [])
-    (holds-up-to 9 (line 9 0 0) (omega arith, omega arith, omega arith) (ltb (length area) (leadInRoom c v w)), tt)
+    never-ten c v w (areaLine 0 (leadInRoom c v w) area ∷ []) (
+      holds-up-to 9 (line 9 0 0) (inl (omega arith, omega arith), omega arith) (ltb (length area) (leadInRoom c v w)),
+      tt,
+    )
 
 pub demand-retired : RetiredDemand
 demand-retired =

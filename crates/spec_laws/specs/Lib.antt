@@ -3,6 +3,7 @@
 pub mod TableLaws
 pub mod LineLaws
 pub mod SearchLaws
+pub mod LayoutLaws
 pub mod CatalogueLaws
 pub mod CatalogueCases
 pub mod ConflictLaws

@@ -5,6 +5,7 @@ use mathlib.Core.Path.{_≡_, refl, sym, _∙_}
 use mathlib.Core.Bool.{true, false}
 use mathlib.Core.List.{List, [], _∷_, _++_, List·Memᴰ·head, List·Memᴰ·tail}
 use mathlib.Core.Option.{Option, none, some}
+use mathlib.Core.Logic.{_⊎_, inl, inr}
 use native.Mathlib.Omega.{arith}
 use Rattle.theory_words.specs.All.{All, all-append}
 use Rattle.theory_conjugacy.specs.Core.{core}
@@ -17,7 +18,7 @@ use Rattle.theory_conjugacy.specs.RoundLaws.{part-quiet}
 use Rattle.spec.specs.declared.Reason.{Reason}
 use Rattle.spec.specs.declared.Reason.the-variants.{CatalogueSize, CommandCount, Index, RecordCommand, EndlessChain}
 use Rattle.spec.specs.declared.Reason.the-variants.{OwnChain, PlanSize, PlanByte, AreaSize, Framing, PairsSize}
-use Rattle.spec.specs.declared.Reason.the-variants.{Text, Nesting, WrittenSize, Places}
+use Rattle.spec.specs.declared.Reason.the-variants.{Text, Nesting, WrittenSize, Places, RecordCount}
 use Rattle.spec.specs.Table.{Line, line, numberOf, firstLine, NoneHolds, FirstHolds}
 use Rattle.spec_laws.specs.TableLaws.{left-out, none-left, none-holds, first-holds}
 use Rattle.spec_laws.specs.LineLaws.{UpTo, two-up-to, first-up-to}
@@ -76,7 +77,11 @@ module _ (c v w : List ℕ) where
         let e : firstLine table ≡ some (line 10 p i) =
         sym retired-same ∙ first-holds (table ++ unsettledLines c v w) (line 10 p i) .1 f in
         let k = all-append (UpTo 9) (programLines c v w) ls (two-up-to 9 (omega arith) planLimit c v w) h in
-        omega (arith, first-up-to 9 table k e .1)
+        not-ten (first-up-to 9 table k e .0)
+      where
+        not-ten : ((1 ≤ 10) × (10 ≤ 9)) ⊎ (_≡_ {A = ℕ} 10 17) → ⊥
+        not-ten (inl (l, h)) = omega arith
+        not-ten (inr q) = omega arith
 
 -- no reason has the number 10
 pub number-unused : (r : Reason) → ¬ (numberOf r ≡ 10)
@@ -95,3 +100,4 @@ number-unused Text e = omega arith
 number-unused Nesting e = omega arith
 number-unused WrittenSize e = omega arith
 number-unused Places e = omega arith
+number-unused RecordCount e = omega arith

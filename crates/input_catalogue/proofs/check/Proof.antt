@@ -1,4 +1,5 @@
--- `check` decides lines 1 to 4: a check that passes tells that its line does not hold, and the next one goes on.
+-- `check` decides lines 1, 2, 17, 3 and 4: a check that passes tells that its line does not hold, and the next one goes
+-- on.
 use mathlib.Core.Path.{_≡_}
 use mathlib.Core.Option.{none}
 use Rattle.spec.specs.Catalogue.{orIf, headLine, nextLine, recordLine}
@@ -45,7 +46,9 @@ returns c =
     then-refused cat (frameLine cat) last (r .result) (r .ensures) (c .enum-told2 .given .1)
 
 heads-requires : tie.Need-heads-requires
-heads-requires c κs = framed-from (c .before .before .before .before .args .c .now) (frame-none c)
+heads-requires c κs =
+    let s = c .before .before .before .before in
+    (s .pre, framed-from (s .args .c .now) (frame-none c))
 
 returns-2 : tie.Need-returns-2
 returns-2 c =
@@ -59,7 +62,8 @@ returns-2 c =
 nexts-requires : tie.Need-nexts-requires
 nexts-requires c κs =
     let x = c .before .before .before in
-    framed-from (x .before .before .before .before .args .c .now) (frame-none x)
+    let s = x .before .before .before .before in
+    (s .pre, framed-from (s .args .c .now) (frame-none x))
 
 returns-3 : tie.Need-returns-3
 returns-3 c =
@@ -75,7 +79,8 @@ returns-3 c =
 named-requires : tie.Need-named-requires
 named-requires c κs =
     let x = after-enum-told c in
-    framed-from (x .before .before .before .before .args .c .now) (frame-none x)
+    let s = x .before .before .before .before in
+    (s .pre, framed-from (s .args .c .now) (frame-none x))
 
 returns-4 : tie.Need-returns-4
 returns-4 c =

@@ -16,7 +16,7 @@ use Rattle.input_conflicts.proofs.read.Tie as tie
 -- places on the way
 
 abbrev after-enum-told : tie.After-enum-told4 → tie.After-enum-told
-after-enum-told c = c .before .before .before .before .before .before .before .before
+after-enum-told c = c .before .before .before .before
 
 abbrev after-enum-told3 : tie.After-diagonal-arg → tie.After-enum-told3
 after-enum-told3 c = c .before .before .before .before .before .before
@@ -29,7 +29,7 @@ enum-told3-from-diagonal c = c .before .before .before .before .before .before .
 
 -- the bytes of the catalogue
 abbrev cat-at : tie.After-enum-told → List ℕ
-cat-at c = c .before .before .before .before .args .catalogue .now
+cat-at c = c .before .before .before .before .before .args .catalogue .now
 
 sound-line : (c : tie.After-enum-told) → soundLine (cat-at c) ≡ none
 sound-line c =
@@ -38,38 +38,33 @@ sound-line c =
     passed-none cat (soundLine cat) (r .result) (r .ensures) (c .enum-told .given .1)
 
 abbrev before-chains : tie.After-enum-told3 → tie.After-enum-told
-before-chains c = c .before .before .before .before .before .before .before .before
+before-chains c = c .before .before .before .before
 
 endless-line : (c : tie.After-enum-told3) → endlessLine (cat-at (before-chains c)) ≡ none
 endless-line c =
     let cat = cat-at (before-chains c) in
-    let r = c .before .before .each-chain in
+    let r = c .before .before .chains in
     passed-none cat (endlessLine cat) (r .result) (r .ensures .0) (c .enum-told3 .given .1)
 
 returns : tie.Need-returns
 returns c =
-    let cat = c .before .before .before .before .args .catalogue .now in
+    let cat = c .before .before .before .before .before .args .catalogue .now in
     let r = c .before .before .check in
     let last = orIf (endlessLine cat) (ownLine cat) in
     let d = then-refused cat (soundLine cat) last (r .result) (r .ensures) (c .enum-told2 .given .1) in
     answers-refused cat (r .result) d (c .enum-told2 .given .1)
 
-each-chain-requires : tie.Need-each-chain-requires
-each-chain-requires c κs =
-    let b = c .before .before .before .before in
-    let x = b .before in (
-      sound-none (cat-at x) (sound-line x),
-      (
-        x .before .before .before .before .pre,
-        (b .blank .ensures, c .before .before .before .none-known .ensures),
-      ),
-    )
+chains-requires : tie.Need-chains-requires
+chains-requires c κs =
+    let x = c .before in
+    let l = x .before .before .before in
+    ((l .layout-of .ensures, sound-none (cat-at x) (sound-line x)), l .before .before .pre)
 
 returns-2 : tie.Need-returns-2
 returns-2 c =
     let x = after-enum-told c in
     let cat = cat-at x in
-    let r = c .before .before .each-chain in
+    let r = c .before .before .chains in
     let d = then-refused cat (endlessLine cat) (ownLine cat) (r .result) (r .ensures .0) (c .enum-told4 .given .1) in
     let last = orIf (endlessLine cat) (ownLine cat) in
     answers-refused cat (r .result) (then-passed cat (soundLine cat) last (r .result) (sound-line x) d)
@@ -79,8 +74,8 @@ own-chain-requires : tie.Need-own-chain-requires
 own-chain-requires c κs =
     let y = c .before in
     let x = before-chains y in (
-      sound-none (cat-at x) (sound-line x) .framed,
-      y .before .before .each-chain .ensures .1 (endless-line y),
+      x .before .before .before .layout-of .ensures,
+      (sound-none (cat-at x) (sound-line x) .framed, y .before .before .chains .ensures .1 (endless-line y)),
     )
 
 returns-3 : tie.Need-returns-3
@@ -97,7 +92,7 @@ returns-3 c =
 diagonal-requires : tie.Need-diagonal-requires
 diagonal-requires c κs =
     let y = after-enum-told3 c in
-    y .before .before .each-chain .ensures .1 (endless-line y) .shape
+    y .before .before .chains .ensures .1 (endless-line y) .shape
 
 returns-4 : tie.Need-returns-4
 returns-4 c =
@@ -107,7 +102,7 @@ returns-4 c =
     let r = after-own-chain c .own-chain in
     let d = then-passed cat (endlessLine cat) (ownLine cat) (r .result) (endless-line y) (r .ensures) in
     let last = orIf (endlessLine cat) (ownLine cat) in
-    let met = y .before .before .each-chain .ensures .1 (endless-line y) in
+    let met = y .before .before .chains .ensures .1 (endless-line y) in
     answers-passed cat (r .result) (then-passed cat (soundLine cat) last (r .result) (sound-line x) d)
     (c .before .before .before .owned .given .1)
     (subst (Conflicts cat) (sym (c .diagonal .ensures)) (met-conflicts cat met))
@@ -116,10 +111,9 @@ pub read-spec : {M : Type 1} → statement M
 read-spec =
     tie.close
     (tie.spec
-    (λ c κs. search needs) (λ c. search needs) (λ c. search needs)
+    (λ c κs. search needs) (λ c κs. search needs) (λ c. search needs) (λ c. search needs)
     returns
-    (λ c κs. search needs) (λ c κs. search needs)
-    each-chain-requires
+    chains-requires
     (λ c. search needs) (λ c. search needs)
     returns-2
     own-chain-requires

@@ -3,8 +3,8 @@ use mathlib.Core.Path.{refl, sym}
 use native.Mathlib.Omega.{arith}
 use lib.ListN.{List·getD-eq-default}
 use borrow.Author.Needs.{needs}
-use Rattle.loops_framing.proofs.byte_at.Statement.{statement}
-use Rattle.loops_framing.proofs.byte_at.Tie as tie
+use Rattle.input_layout.proofs.byte_at.Statement.{statement}
+use Rattle.input_layout.proofs.byte_at.Tie as tie
 
 cast-result : tie.Need-cast-result
 cast-result c = omega (arith, c .shared-slice-known .given (c .before .before .args .i))
