@@ -18,7 +18,7 @@ use Rattle.spec.specs.Table.{Line, line, numberOf, Answer, refused, give
 use Rattle.spec.specs.Table.{NoneHolds, FirstHolds}
 use Rattle.spec.specs.Catalogue.{commands, countLine, catalogueLines}
 use Rattle.spec.specs.Plan.{planLines}
-use Rattle.spec.specs.Conflict.{conflict, Conflicting}
+use Rattle.spec.specs.Conflict.{Names, conflict, Conflicting}
 use Rattle.spec.specs.Byte.{commandOf, undone, undoOf}
 use Rattle.spec.specs.Step.{Command, Equal}
 use Rattle.spec.specs.Order.{Earlier}
@@ -43,6 +43,7 @@ use Rattle.spec.specs.WriteOut.{writeOutLines, writeOutAnswer, writeOutA
 use Rattle.spec.specs.Framing.{Framed, wellFramed, catalogueOf, plan1Of, plan2Of}
 use Rattle.spec.specs.Listing.{Printed}
 use Rattle.spec.specs.Program.{programLines, programAnswer}
+use Rattle.spec.specs.Editions.{rewritten, SayTheSame, SameAnswers}
 
 -- Demand 1. A call with the lines ls and the result a is refused exactly by the first line that holds, and gives its
 -- result exactly if none does; a refusal leaves what was lent as it was.
@@ -61,6 +62,24 @@ pub record CatalogueDemand : Type 0 where
   pub table : (c : List ℕ) (t : List (List ℕ)) (n : ℕ) → catalogueAnswer c ≡ given n → (i j : ℕ) → i < 24 → j < 24
       → getD (getD (catalogueTable c t) i []) j 0 ≡ yesNo (conflict c (i + 1) (j + 1))
   pub conflicts : (c : List ℕ) (a b : ℕ) → (conflict c a b ≡ true) ↔ Conflicting c a b
+
+-- The two editions of the catalogue. A catalogue of the first edition (byte 0 below 128) and its writing in the second
+-- pass together, or are refused by lines of the same number; where they pass, they have the same N and name the same
+-- pairs. Two catalogues that name the same pairs, of whichever editions, have the same conflicts. Where both pass and
+-- have the same N, two plans are equal under one exactly if they are under the other, and every call is promised the
+-- same answer and areas; of two joined loops the lead-in is as free under one as under the other. So each demand on
+-- plans and loops speaks of both editions.
+pub record EditionsDemand : Type 0 where
+  pub passes : (c : List ℕ) → getD c 0 0 < 128
+      → NoneHolds (catalogueLines (rewritten c)) ↔ NoneHolds (catalogueLines c)
+  pub refused : (c : List ℕ) → getD c 0 0 < 128 → (l : Line) → FirstHolds l (catalogueLines c)
+      → (k : Line) × FirstHolds k (catalogueLines (rewritten c)) × (k .number ≡ l .number)
+  pub says-the-same : (c : List ℕ) → getD c 0 0 < 128 → NoneHolds (catalogueLines c)
+      → SayTheSame c (rewritten c)
+  pub conflicts : (c d : List ℕ) → ((a b : ℕ) → Names c a b ↔ Names d a b)
+      → (a b : ℕ) → conflict c a b ≡ conflict d a b
+  pub equal : (c d v w : List ℕ) → SayTheSame c d → Equal c v w ↔ Equal d v w
+  pub answers : (c d : List ℕ) → SayTheSame c d → SameAnswers c d
 
 -- z has the effect of v, is no longer than any plan that has it, and is the first of those of its length
 pub record Shortest (c v z : List ℕ) : Type 0 where

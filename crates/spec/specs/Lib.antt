@@ -27,6 +27,7 @@ pub mod Codes
 pub mod Framing
 pub mod Listing
 pub mod Program
+pub mod Editions
 pub mod Cases
 pub mod TextCases
 pub mod Retired

@@ -1,13 +1,15 @@
--- For the reader, and cited by no other file: catalogues of a few bytes and the line of the manual's table that
--- refuses each, computed from the definitions.
+-- For the reader, and cited by no other file: small catalogues of either edition and the line of the manual's table
+-- that refuses each, computed from the definitions.
 use Prim.Native.Nat.{ℕ}
 use mathlib.Core.Path.{_≡_, refl}
 use mathlib.Core.Bool.{true, false}
 use mathlib.Core.List.{List, [], _∷_}
 use mathlib.Core.Option.{Option, none, some}
+use lib.ListN.{replicate}
 use Rattle.spec.specs.Table.{Line, line, firstLine, firstOf}
 use Rattle.spec.specs.Catalogue.{ends, follow, chain, stands, catalogueLines}
 use Rattle.spec.specs.Conflict.{names, conflictBy, conflict}
+use Rattle.spec.specs.Editions.{wideHeads, wideRecords, rewritten}
 use Rattle.spec.specs.Cases.{K}
 
 abbrev lineFor : List ℕ → Option Line
@@ -69,3 +71,64 @@ K-conflict = (refl, refl)
 K-chains : (chain K 0 ≡ []) × (chain K 1 ≡ 2 ∷ []) × (chain K 4 ≡ []) × (chain K 5 ≡ [])
 unfolding follow
 K-chains = (refl, refl, refl, refl)
+
+-- The second edition
+
+second-short : lineFor (128 ∷ []) ≡ some (line 1 0 0)
+unfolding firstOf
+second-short = refl
+
+second-empty : lineFor (128 ∷ 0 ∷ 0 ∷ []) ≡ none
+unfolding firstOf
+second-empty = refl
+
+-- N = 25 in a catalogue of the right size
+second-count : lineFor (153 ∷ 0 ∷ 0 ∷ replicate 50 0) ≡ some (line 2 0 0)
+unfolding firstOf
+second-count = refl
+
+-- N = 24 and R = 1,025 in a catalogue of the right size
+second-most : lineFor (152 ∷ 1 ∷ 4 ∷ replicate 3123 0) ≡ some (line 17 0 1)
+unfolding firstOf
+second-most = refl
+
+-- line 2 is decided before line 17
+second-count-first : lineFor (153 ∷ 1 ∷ 4 ∷ replicate 3125 0) ≡ some (line 2 0 0)
+unfolding firstOf
+second-count-first = refl
+
+-- an index of 256 is refused at its low byte
+second-head-above : lineFor (129 ∷ 1 ∷ 0 ∷ 0 ∷ 1 ∷ 1 ∷ 0 ∷ 0 ∷ []) ≡ some (line 3 0 3)
+unfolding firstOf
+second-head-above = refl
+
+second-next-above : lineFor (129 ∷ 1 ∷ 0 ∷ 0 ∷ 0 ∷ 1 ∷ 0 ∷ 1 ∷ []) ≡ some (line 3 0 6)
+unfolding firstOf
+second-next-above = refl
+
+second-record : lineFor (129 ∷ 1 ∷ 0 ∷ 0 ∷ 0 ∷ 2 ∷ 0 ∷ 0 ∷ []) ≡ some (line 4 0 5)
+unfolding firstOf
+second-record = refl
+
+second-endless : lineFor (130 ∷ 1 ∷ 0 ∷ 0 ∷ 0 ∷ 1 ∷ 0 ∷ 1 ∷ 1 ∷ 0 ∷ []) ≡ some (line 5 0 5)
+unfolding firstOf ends follow stands
+second-endless = refl
+
+second-own : lineFor (129 ∷ 1 ∷ 0 ∷ 1 ∷ 0 ∷ 1 ∷ 0 ∷ 0 ∷ []) ≡ some (line 6 0 3)
+unfolding firstOf ends follow stands
+second-own = refl
+
+-- K, written in the second edition
+K-rewritten : rewritten K
+    ≡ 132 ∷ 3 ∷ 0 ∷ 1 ∷ 0 ∷ 2 ∷ 0 ∷ 3 ∷ 0 ∷ 0 ∷ 0 ∷ 2 ∷ 0 ∷ 0 ∷ 3 ∷ 0 ∷ 0 ∷ 4 ∷ 0 ∷ 0 ∷ []
+unfolding wideHeads wideRecords
+K-rewritten = refl
+
+K-rewritten-passes : lineFor (rewritten K) ≡ none
+unfolding firstOf ends follow stands wideHeads wideRecords
+K-rewritten-passes = refl
+
+K-rewritten-chains : (chain (rewritten K) 0 ≡ []) × (chain (rewritten K) 1 ≡ 2 ∷ []) × (chain (rewritten K) 2 ≡ 3 ∷ [])
+    × (chain (rewritten K) 3 ≡ 4 ∷ []) × (chain (rewritten K) 4 ≡ []) × (chain (rewritten K) 5 ≡ [])
+unfolding follow wideHeads wideRecords
+K-rewritten-chains = (refl, refl, refl, refl, refl, refl)

@@ -17,7 +17,9 @@ use Rattle.spec_laws.specs.TableLaws.{none-holds, first-holds, none-left
 use Rattle.spec_laws.specs.LineLaws.{holds-up-to}
 use Rattle.spec.specs.Catalogue.{commands, catalogueLines}
 use Rattle.spec.specs.Conflict.{conflict}
-use Rattle.spec_laws.specs.ConflictLaws.{conflict-exact, rows-tell}
+use Rattle.spec_laws.specs.ConflictLaws.{conflict-exact, rows-tell, conflict-same}
+use Rattle.spec_laws.specs.EditionLaws.{rewritten-passes, rewritten-refused, rewritten-same}
+use Rattle.spec_laws.specs.SameLaws.{same-equal, same-answers}
 use Rattle.spec.specs.Plan.{planLines, Passing}
 use Rattle.spec_laws.specs.PlanLaws.{lines-pass, passing-append}
 use Rattle.spec.specs.Letters.{normalForm}
@@ -29,7 +31,7 @@ use Rattle.spec_laws.specs.SearchLaws.{given-not}
 use Rattle.spec.specs.Step.{Equal}
 use Rattle.spec.specs.Demands.{Demand1, Demand2, Demand3, Shortest, Exact, IsCore}
 use Rattle.spec.specs.Demands.{CatalogueDemand, PairsDemand, CoreDemand, RoundsDemand, FaultDemand, ProgramDemand}
-use Rattle.spec.specs.Demands.{SlotsDemand, PrecedenceDemand, SetTestDemand, RetiredDemand, PlansDemand}
+use Rattle.spec.specs.Demands.{EditionsDemand, SlotsDemand, PrecedenceDemand, SetTestDemand, RetiredDemand, PlansDemand}
 use Rattle.spec.specs.Calls.{planLimit, areaLine, areaAfter, normalFormLines, normalFormAnswer, normalFormArea}
 use Rattle.spec.specs.Calls.{catalogueAnswer, catalogueTable, coreForm, coreAnswer, coreArea, equalLines, equalAnswer}
 use Rattle.spec.specs.Calls.{pairedLines, pairedCounts, pairedAnswer, pairedArea, pairedNumbers}
@@ -97,6 +99,19 @@ catalogue-table c t n e i j h l =
 pub demand-catalogue : CatalogueDemand
 demand-catalogue =
     record { number = catalogue-number; table = catalogue-table; conflicts = conflict-exact }
+
+-- The two editions
+
+pub demand-editions : EditionsDemand
+demand-editions =
+    record {
+      passes = rewritten-passes;
+      refused = rewritten-refused;
+      says-the-same = rewritten-same;
+      conflicts = conflict-same;
+      equal = same-equal;
+      answers = same-answers;
+    }
 
 -- Demand 2
 

@@ -5,6 +5,7 @@ pub mod LineLaws
 pub mod SearchLaws
 pub mod LayoutLaws
 pub mod CatalogueLaws
+pub mod EditionLaws
 pub mod CatalogueCases
 pub mod ConflictLaws
 pub mod PlanLaws
@@ -27,6 +28,7 @@ pub mod DifferentLaws
 pub mod FewestLaws
 pub mod SlotsLaws
 pub mod LoopLaws
+pub mod SameLaws
 pub mod RetiredLaws
 pub mod SettlesLaws
 pub mod RoundsLaws
