@@ -47,14 +47,14 @@ static inline size_t unit(enum call call, unsigned area) {
 }
 
 /* The bytes that an area must have at least, as busplan.h says, for the number of commands that byte 0 of the catalogue
- * claims; for a text as many as any needs. */
+ * claims, in either edition; for a text as many as any needs. */
 static inline size_t room(const struct question *q, unsigned area) {
     size_t v = q->plan[0].size, w = q->plan[1].size, u = q->plan[2].size;
     if (tells_fault(q->call)) return 2 * sizeof(uint64_t);
     if (q->call == SLOTS && area == 1) return BUSPLAN_SLOTS_ROOM(v) * sizeof(uint16_t);
     if (q->call == SLOTS && area == 2) return sizeof(uint64_t);
     if (q->call == WRITE_OUT) return BUSPLAN_MAX_WRITE_OUT_ROOM;
-    if (q->call == LOOPS) return q->catalogue.size == 0 ? 0 : BUSPLAN_LOOPS_ROOM(q->catalogue.at[0], v, w);
+    if (q->call == LOOPS) return BUSPLAN_LOOPS_ROOM(layout_of(q->catalogue.at, q->catalogue.size).commands, v, w);
     if (q->call == LEAD_IN_CHECK) return area == 0 ? BUSPLAN_CHECK_ROOM0(v, u) : BUSPLAN_CHECK_ROOM1(u, w);
     return BUSPLAN_FORM_ROOM(v);
 }
@@ -95,12 +95,14 @@ static inline enum call teller_of(enum call call) {
     return call < PLAN_CALLS ? FAULT : call < TEXT_CALLS ? PRECEDENCE_FAULT : TEXT_FAULT;
 }
 
-/* Whether it can be told: 1 to 8, with a list of places 16 too, and of a text 1 to 6, 8 and 13 to 15. */
+/* Whether it can be told: of a catalogue 1 to 6 and 17, of a plan 7 and 8, of a list of places 16, of a text 8 and 13
+ * to 15. */
 static inline bool tellable(enum call teller, int64_t answer) {
+    if ((answer >= -BUSPLAN_OWN_CHAIN && answer < 0) || answer == -BUSPLAN_RECORD_COUNT) return true;
     if (teller == TEXT_FAULT)
-        return (answer >= -BUSPLAN_OWN_CHAIN && answer < 0) || answer == -BUSPLAN_PLAN_BYTE
-            || (answer >= -BUSPLAN_WRITTEN_SIZE && answer <= -BUSPLAN_TEXT);
-    return (answer >= -BUSPLAN_PLAN_BYTE && answer < 0) || (teller == PRECEDENCE_FAULT && answer == -BUSPLAN_PLACES);
+        return answer == -BUSPLAN_PLAN_BYTE || (answer >= -BUSPLAN_WRITTEN_SIZE && answer <= -BUSPLAN_TEXT);
+    return answer == -BUSPLAN_PLAN_SIZE || answer == -BUSPLAN_PLAN_BYTE
+        || (teller == PRECEDENCE_FAULT && answer == -BUSPLAN_PLACES);
 }
 
 /* Whether the library, asked what is wrong with so many of the plans, tells this answer if it can, and else nothing. */

@@ -152,7 +152,7 @@ int64_t solver_text_fault(const uint8_t *catalogue, size_t catalogue_size, const
                           uint64_t fault[2]) {
     int64_t answer = solver_fault(catalogue, catalogue_size, NULL, 0, NULL, 0, NULL, 0, fault);
     if (answer != 0) return answer;
-    struct reading r = read_text(text, text_size, catalogue[0]);
+    struct reading r = read_text(text, text_size, layout_of(catalogue, catalogue_size).commands);
     if (r.wrong != nowhere) return refuse(13, r.wrong, fault);
     if (r.deep != nowhere) return refuse(14, r.deep, fault);
     if (r.above != nowhere) return refuse(8, r.above, fault);

@@ -3,11 +3,9 @@
 #ifndef SOLVER_H
 #define SOLVER_H
 
-#include <stdbool.h>
-#include <stddef.h>
-#include <stdint.h>
+#include "layout.h"
 
-enum { MOST_COMMANDS = 24, MOST_PLAN = 1024, MOST_LEAD_IN = 49152, MOST_LETTERS = 1 << 16 };
+enum { MOST_PLAN = 1024, MOST_LEAD_IN = 49152, MOST_LETTERS = 1 << 16 };
 
 /* Which commands conflict: bit b of with[a], for a and b from 1 to commands. Every command conflicts with itself. */
 struct conflicts {
@@ -27,7 +25,7 @@ static inline bool conflict(const struct conflicts *k, uint8_t x, uint8_t y) {
     return k->with[command_of(x)] >> command_of(y) & 1;
 }
 
-/* The first of lines 1 to 6 that holds, or 0 and the conflicts. */
+/* The first of lines 1, 2, 17 and 3 to 6 that holds, or 0 and the conflicts. */
 int solver_catalogue(const uint8_t *bytes, size_t size, struct conflicts *k);
 
 /* The letters of a plan; the word made normal; whether two words are the same. */
