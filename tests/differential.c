@@ -22,8 +22,8 @@ static struct guarded given[5], lent[MOST_AREAS];
 static _Alignas(uint64_t) uint8_t expected_bytes[MOST_AREAS][MOST_GUARDED];
 static struct question question;
 
-/* How often each call gave each answer: 0, minus 1 to 16, or ABOVE for any answer above 0. */
-enum { ABOVE = 17, ANSWERS = 18 };
+/* How often each call gave each answer: 0, minus 1 to 17, or ABOVE for any answer above 0. */
+enum { ABOVE = 18, ANSWERS = 19 };
 static uint64_t answers[TEXT_CALLS][ANSWERS];
 
 /* Which of them a call takes as its plan 1, 2 or 3. */
@@ -335,7 +335,7 @@ static void round_of_calls(void) {
 
 /* ---- The whole */
 
-/* Whether a call can give an answer: 0, minus 1 to 16, or ABOVE. Refusal 10 is retired and must not come up. */
+/* Whether a call can give an answer: 0, minus 1 to 17, or ABOVE. Refusal 10 is retired and must not come up. */
 static bool possible(enum call call, unsigned answer) {
     if (answer == ABOVE) return !tells_fault(call);
     return answer <= 8 || (answer == 9 && sized_areas_of[call] > 0) || tellable(teller_of(call), -(int64_t)answer);
@@ -345,11 +345,11 @@ static bool possible(enum call call, unsigned answer) {
 static void print_answers(void) {
     printf("%-16s %8s %8s", "answer", "above 0", "0");
     for (int i = 1; i <= 9; i++) printf(" %8d", -i);
-    printf(" %8d\n", -BUSPLAN_PLACES);
+    printf(" %8d %8d\n", -BUSPLAN_PLACES, -BUSPLAN_RECORD_COUNT);
     for (unsigned call = 0; call < TEXT_CALLS; call++) {
         printf("%-16s %8" PRIu64 " %8" PRIu64, call_name[call], answers[call][ABOVE], answers[call][0]);
         for (unsigned i = 1; i <= 9; i++) printf(" %8" PRIu64, answers[call][i]);
-        printf(" %8" PRIu64 "\n", answers[call][BUSPLAN_PLACES]);
+        printf(" %8" PRIu64 " %8" PRIu64 "\n", answers[call][BUSPLAN_PLACES], answers[call][BUSPLAN_RECORD_COUNT]);
         for (unsigned i = 0; i < ANSWERS; i++) {
             bool expected = possible((enum call)call, i);
             if (calls >= 100000 && expected != (answers[call][i] > 0)) {

@@ -22,8 +22,8 @@ static struct guarded given[2], lent;
 static _Alignas(uint64_t) uint8_t expected_bytes[MOST_GUARDED];
 static struct question question;
 
-/* How often each call gave each answer: 0, minus 1 to 15, or ABOVE for any answer above 0. */
-enum { ABOVE = 16, ANSWERS = 17 };
+/* How often each call gave each answer: 0, minus 1 to 17, or ABOVE for any answer above 0. */
+enum { ABOVE = 18, ANSWERS = 19 };
 static uint64_t answers[CALLS][ANSWERS];
 
 /* ---- When something is wrong */
@@ -204,15 +204,16 @@ static void compare_all_short(char *start, size_t size) {
     }
 }
 
-static void set_catalogue(unsigned commands) {
-    memset(catalogue.at, 0, 2 + commands);
-    catalogue.at[0] = (uint8_t)commands;
-    catalogue.size = 2 + commands;
+/* A catalogue without records, of the second edition or of the first. */
+static void set_catalogue(unsigned commands, bool second) {
+    catalogue.size = second ? 3 + 2 * commands : 2 + commands;
+    memset(catalogue.at, 0, catalogue.size);
+    catalogue.at[0] = (uint8_t)(second ? 128 + commands : commands);
 }
 
 static void try_short(void) {
     char start[SHORT + 3];
-    set_catalogue(MOST_COMMANDS);
+    set_catalogue(MOST_COMMANDS, false);
     compare_short("", 1);
     compare_all_short(start, 0);
 }
@@ -268,7 +269,7 @@ static void try_huge(const struct huge *h) {
 
 static void draw_catalogue(void) {
     static const uint8_t commands[] = {0, 1, 4, 23, 24, 24};
-    if (chance(60)) set_catalogue(commands[below(sizeof commands)]);
+    if (chance(60)) set_catalogue(commands[below(sizeof commands)], chance(50));
     else random_catalogue(&catalogue);
     if (!chance(25)) return;
     damage_catalogue(&catalogue);
@@ -276,8 +277,8 @@ static void draw_catalogue(void) {
 }
 
 static void try_random(void) {
-    unsigned commands = catalogue.size > 0 && catalogue.at[0] < MOST_COMMANDS ? catalogue.at[0] : MOST_COMMANDS;
-    random_text(commands, &text);
+    unsigned claimed = layout_of(catalogue.at, catalogue.size).commands;
+    random_text(catalogue.size > 0 && claimed < MOST_COMMANDS ? claimed : MOST_COMMANDS, &text);
     if (below(4000) == 0) lengthen_text(&text);
     if (chance(40))
         do damage_text(&text);
@@ -287,7 +288,7 @@ static void try_random(void) {
 
 /* ---- The whole */
 
-/* Whether a call can give an answer: 0, minus 1 to 15, or ABOVE. */
+/* Whether a call can give an answer: 0, minus 1 to 17, or ABOVE. */
 static bool possible(enum call call, unsigned answer) {
     if (answer == ABOVE || answer == BUSPLAN_AREA_SIZE) return call == WRITE_OUT;
     return answer == 0 || tellable(teller_of(call), -(int64_t)answer);
@@ -315,7 +316,7 @@ int main(int count, char **argument) {
     guarded_open(&lent);
     try_short();
     uint64_t all_short = texts;
-    set_catalogue(4);
+    set_catalogue(4, false);
     for (size_t i = 0; i < sizeof huge / sizeof *huge; i++) try_huge(&huge[i]);
     for (uint64_t i = 0; i < wanted; i++) {
         if (i % 8 == 0) draw_catalogue();

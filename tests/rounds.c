@@ -10,7 +10,8 @@
 #include <stdlib.h>
 #include <string.h>
 
-enum { MOST_FRAMED = 1100, REFUSALS = 8 };
+/* The largest catalogue and plan that the program reads. Line 17 refuses no catalogue that small. */
+enum { MOST_CATALOGUE = 1024, MOST_FRAMED = 1100, REFUSALS = 8 };
 
 static uint64_t seed = 1, calls;
 
@@ -188,10 +189,13 @@ static void random_call(void) {
     }
     bool settling = below(300) == 0;
     if (settling) long_settling(&catalogue, &plan[0], &plan[1]);
-    else random_catalogue(&catalogue);
+    else
+        do random_catalogue(&catalogue);
+        while (catalogue.size > MOST_CATALOGUE);
     solver_catalogue(catalogue.at, catalogue.size, &k);
     if (!settling) random_plans(&k);
     if (!settling && chance(25)) damage(&k);
+    if (catalogue.size > MOST_CATALOGUE) catalogue.size = MOST_CATALOGUE;
     for (unsigned i = 0; i < 2; i++)
         if (plan[i].size > MOST_FRAMED) plan[i].size = MOST_FRAMED;
 }
@@ -253,7 +257,7 @@ static void check_verdict(const char *printed) {
     if (known.is && (known.joined != (answer > 0) || known.rounds != rounds))
         fail("the solver's answer is not the one that is known", printed, expected);
     if (strcmp(printed, expected) != 0) fail("the answers differ", printed, expected);
-    if (length > catalogue.at[0] * (plan[0].size + plan[1].size))
+    if (length > layout_of(catalogue.at, catalogue.size).commands * (plan[0].size + plan[1].size))
         fail("the lead-in is longer than N(n + m)", printed, expected);
     if (rounds > 0 && rounds >= core_commands(&plan[0]) && rounds >= core_commands(&plan[1]))
         fail("there are not fewer rounds than commands in a core", printed, expected);

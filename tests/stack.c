@@ -114,9 +114,11 @@ static void measure_plans(void) {
 }
 
 /* Under a catalogue in which each command conflicts with the next: a run of 1 and then each other command once, upwards
- * and downwards, as far as size goes. No loops take longer to settle. The lead-in has size letters. */
+ * and downwards, as far as size goes. No loops take longer to settle. The lead-in has size letters. Then once more with
+ * the catalogue rewritten in the second edition. */
 static void ask_settling(unsigned commands, size_t size) {
     size_t plan = size < MOST_PLAN ? size : MOST_PLAN;
+    uint8_t rewritten[6 * MOST_COMMANDS];
     catalogue.size = 2 + commands + 2 * (size_t)(commands - 1);
     catalogue.at[0] = (uint8_t)commands;
     catalogue.at[1] = (uint8_t)(commands - 1);
@@ -133,6 +135,30 @@ static void ask_settling(unsigned commands, size_t size) {
     u.size = size;
     memset(u.at, 1, size);
     measure_plans();
+    catalogue.size = rewrite_catalogue(catalogue.at, catalogue.size, rewritten);
+    memcpy(catalogue.at, rewritten, catalogue.size);
+    measure_plans();
+}
+
+/* Under the largest catalogue: 1,024 records that all stand in the chains of all commands but the last. */
+static void ask_largest(void) {
+    struct layout l = {catalogue.at, MOST_COMMANDS, MOST_RECORDS, 2};
+    catalogue.size = whole_size(&l);
+    memset(catalogue.at, 0, catalogue.size);
+    catalogue.at[0] = 128 + MOST_COMMANDS;
+    catalogue.at[2] = MOST_RECORDS / 256;
+    for (unsigned a = 1; a < MOST_COMMANDS; a++) catalogue.at[head_place(&l, a)] = 1;
+    for (unsigned r = 1; r <= MOST_RECORDS; r++) {
+        unsigned next = r < MOST_RECORDS ? r + 1 : 0;
+        catalogue.at[record_place(&l, r)] = MOST_COMMANDS;
+        catalogue.at[record_place(&l, r) + 1] = (uint8_t)next;
+        catalogue.at[record_place(&l, r) + 2] = (uint8_t)(next >> 8);
+    }
+    v.size = w.size = u.size = MOST_PLAN;
+    for (size_t i = 0; i < MOST_PLAN; i++) v.at[i] = w.at[i] = u.at[i] = (uint8_t)(1 + i % MOST_COMMANDS);
+    measure_plans();
+    v.size = 0;
+    for (unsigned call = TEXT_CALLS; call < CALLS; call++) measure((enum call)call);
 }
 
 /* Plans of any kind and size, joined and not, and now and then a long lead-in. */
@@ -153,7 +179,7 @@ static void ask_random(void) {
 /* A text in the place of plan 1, of any kind and size, now and then damaged. */
 static void ask_random_text(void) {
     random_catalogue(&catalogue);
-    random_text(catalogue.at[0], &v);
+    random_text(layout_of(catalogue.at, catalogue.size).commands, &v);
     if (chance(2)) lengthen_text(&v);
     if (chance(20)) damage_text(&v);
     for (unsigned call = TEXT_CALLS; call < CALLS; call++) measure((enum call)call);
@@ -177,6 +203,7 @@ int main(void) {
     prepare();
     for (size_t i = 0; i < sizeof sizes / sizeof sizes[0]; i++)
         for (unsigned commands = 2; commands <= MOST_COMMANDS; commands += 11) ask_settling(commands, sizes[i]);
+    ask_largest();
     for (unsigned i = 0; i < ROUNDS; i++) ask_random();
     for (size_t depth = 0; depth <= MOST_NESTING; depth++) ask_nest(depth);
     ask_nest(MOST_TEXT / 4 - 1);

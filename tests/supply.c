@@ -22,19 +22,28 @@ bool chance(unsigned percent) { return below(100) < percent; }
 
 /* ---- Catalogues */
 
+/* A catalogue that is being made: most is how many records its edition can count. */
 struct records {
-    unsigned count;
-    uint8_t command[256], next[256];
+    unsigned commands, most, count;
+    uint16_t head[MOST_COMMANDS + 1], next[MOST_RECORDS + 1];
+    uint8_t command[MOST_RECORDS + 1];
 };
+
+static void begin_records(struct records *rs, unsigned commands) {
+    rs->commands = commands;
+    rs->most = chance(40) ? MOST_RECORDS : 255;
+    rs->count = 0;
+    memset(rs->head, 0, sizeof rs->head);
+}
 
 /* A record for the front of a chain; with sharing set, one that is there already if there is one. 0 if all are used. */
 static unsigned add_record(struct records *rs, unsigned command, unsigned next, bool sharing) {
     for (unsigned r = 1; sharing && r <= rs->count; r++)
         if (rs->command[r] == command && rs->next[r] == next) return r;
-    if (rs->count == 255) return 0;
+    if (rs->count == rs->most) return 0;
     rs->count++;
     rs->command[rs->count] = (uint8_t)command;
-    rs->next[rs->count] = (uint8_t)next;
+    rs->next[rs->count] = (uint16_t)next;
     return rs->count;
 }
 
@@ -53,9 +62,9 @@ static bool edge(unsigned kind, unsigned a, unsigned b, unsigned commands) {
 }
 
 /* Chains for a graph: each pair is listed by its smaller command, its larger one or both, now and then twice. */
-static void chains_of_graph(struct records *rs, uint8_t *head, unsigned commands, bool smaller_only, bool sharing) {
+static void chains_of_graph(struct records *rs, bool smaller_only, bool sharing) {
     uint8_t list[MOST_COMMANDS + 1][4 * MOST_COMMANDS];
-    unsigned size[MOST_COMMANDS + 1] = {0}, kind = (unsigned)below(15);
+    unsigned size[MOST_COMMANDS + 1] = {0}, kind = (unsigned)below(15), commands = rs->commands;
     for (unsigned b = commands; b >= 1; b--) {
         for (unsigned a = b - 1; a >= 1; a--) {
             if (!edge(kind, a, b, commands)) continue;
@@ -71,100 +80,149 @@ static void chains_of_graph(struct records *rs, uint8_t *head, unsigned commands
             unsigned r = add_record(rs, list[a][i], next, sharing);
             if (r != 0) next = r;
         }
-        head[a] = (uint8_t)next;
+        rs->head[a] = (uint16_t)next;
     }
 }
 
-/* Chains drawn at random: every record leads to an earlier one. A chain begins behind the last place of its command. */
-static void random_chains(struct records *rs, uint8_t *head, unsigned commands) {
-    size_t most = chance(5) ? 255 : 1 + below(4 * commands);
-    while (rs->count < most) add_record(rs, 1 + (unsigned)below(commands), (unsigned)below(rs->count + 1), false);
-    for (unsigned a = 1; a <= commands; a++) {
-        unsigned start = (unsigned)below(rs->count + 1);
+/* Chains drawn at random: every record leads to an earlier one, now and then to the one before it. A chain begins
+ * behind the last place of its command; where no record has command 1, its chain may have all of them. */
+static void random_chains(struct records *rs) {
+    size_t most = chance(8) ? rs->most : 1 + below(4 * rs->commands);
+    unsigned first = rs->commands > 1 && chance(30) ? 2 : 1;
+    bool straight = chance(15);
+    if (chance(5)) most = 1 + below(rs->most);
+    while (rs->count < most) {
+        unsigned next = straight ? rs->count : (unsigned)below(rs->count + 1);
+        add_record(rs, first + (unsigned)below(rs->commands + 1 - first), next, false);
+    }
+    for (unsigned a = 1; a <= rs->commands; a++) {
+        unsigned start = straight && chance(50) ? rs->count : (unsigned)below(rs->count + 1);
         for (unsigned r = start; r != 0; r = rs->next[r])
             if (rs->command[r] == a) start = rs->next[r];
-        head[a] = (uint8_t)start;
+        rs->head[a] = (uint16_t)start;
     }
 }
 
 /* Records that no chain reaches; they may lead anywhere, also to themselves. */
-static void add_unreached(struct records *rs, unsigned commands) {
-    size_t more = chance(5) ? 255 : below(4), from = rs->count;
-    while (rs->count < 255 && rs->count - from < more) add_record(rs, 1 + (unsigned)below(commands), 0, false);
-    for (unsigned r = (unsigned)from + 1; r <= rs->count; r++) rs->next[r] = (uint8_t)below(rs->count + 1);
+static void add_unreached(struct records *rs) {
+    size_t more = chance(5) ? rs->most : below(4), from = rs->count;
+    while (rs->count < rs->most && rs->count - from < more)
+        add_record(rs, 1 + (unsigned)below(rs->commands), 0, false);
+    for (unsigned r = (unsigned)from + 1; r <= rs->count; r++) rs->next[r] = (uint16_t)below(rs->count + 1);
+}
+
+static void set_index(struct bytes *catalogue, const struct layout *l, size_t place, unsigned index) {
+    catalogue->at[place] = (uint8_t)index;
+    if (l->width == 2) catalogue->at[place + 1] = (uint8_t)(index >> 8);
+}
+
+/* Sets N, R and with them the size. */
+static struct layout set_counts(struct bytes *catalogue, unsigned commands, unsigned records, unsigned width) {
+    struct layout l = {catalogue->at, commands, records, width};
+    catalogue->at[0] = (uint8_t)(width == 1 ? commands : 128 + commands);
+    set_index(catalogue, &l, 1, records);
+    catalogue->size = whole_size(&l);
+    return l;
 }
 
 /* Writes the catalogue with the records numbered anew in random order. */
-static void write_catalogue(const struct records *rs, const uint8_t *head, unsigned commands, struct bytes *catalogue) {
-    uint8_t number[256] = {0};
-    for (unsigned r = 1; r <= rs->count; r++) number[r] = (uint8_t)r;
+static void write_catalogue(const struct records *rs, struct bytes *catalogue) {
+    struct layout l = set_counts(catalogue, rs->commands, rs->count, rs->most > 255 ? 2 : 1);
+    uint16_t number[MOST_RECORDS + 1] = {0};
+    for (unsigned r = 1; r <= rs->count; r++) number[r] = (uint16_t)r;
     for (unsigned r = rs->count; r > 1; r--) {
         size_t other = 1 + below(r);
-        uint8_t kept = number[r];
+        uint16_t kept = number[r];
         number[r] = number[other];
         number[other] = kept;
     }
-    catalogue->size = 2 + commands + 2 * rs->count;
-    catalogue->at[0] = (uint8_t)commands;
-    catalogue->at[1] = (uint8_t)rs->count;
-    for (unsigned a = 1; a <= commands; a++) catalogue->at[1 + a] = number[head[a]];
+    for (unsigned a = 1; a <= rs->commands; a++) set_index(catalogue, &l, head_place(&l, a), number[rs->head[a]]);
     for (unsigned r = 1; r <= rs->count; r++) {
-        catalogue->at[commands + 2 * number[r]] = rs->command[r];
-        catalogue->at[commands + 2 * number[r] + 1] = number[rs->next[r]];
+        size_t place = record_place(&l, number[r]);
+        catalogue->at[place] = rs->command[r];
+        set_index(catalogue, &l, place + 1, number[rs->next[r]]);
     }
 }
 
 void random_catalogue(struct bytes *catalogue) {
     static const uint8_t bound[] = {2, 4, 4, 5, 5, 7, 7, 10, 16, 25};
-    struct records rs = {0};
-    uint8_t head[MOST_COMMANDS + 1] = {0};
+    struct records rs;
     unsigned commands = chance(4) ? MOST_COMMANDS : (unsigned)below(bound[below(sizeof bound)]);
     size_t way = commands == 0 ? 3 : below(4);
-    if (way == 0) random_chains(&rs, head, commands);
-    if (way == 1) chains_of_graph(&rs, head, commands, false, chance(50));
-    if (way == 2) chains_of_graph(&rs, head, commands, true, true);
-    if (commands > 0 && chance(20)) add_unreached(&rs, commands);
-    write_catalogue(&rs, head, commands, catalogue);
+    begin_records(&rs, commands);
+    if (way == 0) random_chains(&rs);
+    if (way == 1) chains_of_graph(&rs, false, chance(50));
+    if (way == 2) chains_of_graph(&rs, true, chance(50));
+    if (commands > 0 && chance(20)) add_unreached(&rs);
+    write_catalogue(&rs, catalogue);
 }
 
-/* The place of a command byte of the chain of command a, at a random step; 0 if the chain is empty. */
-static size_t place_in_chain(const struct bytes *catalogue, unsigned a) {
-    const uint8_t *at = catalogue->at;
-    unsigned r = at[1 + a], steps = (unsigned)below(6);
-    while (r != 0 && steps-- > 0 && at[at[0] + 2 * r + 1] != 0) r = at[at[0] + 2 * r + 1];
-    return r == 0 ? 0 : at[0] + 2 * (size_t)r;
+/* ---- Damage to a catalogue, which may be damaged already */
+
+/* The number of a record of the chain of command a, at a random step; 0 if there is none. */
+static unsigned record_in_chain(const struct layout *l, unsigned a) {
+    unsigned r = head_of(l, a), next = r;
+    for (size_t steps = below(6) + 1; steps > 0 && next != 0 && next <= l->records; steps--) {
+        r = next;
+        next = record_next(l, r);
+    }
+    return r <= l->records ? r : 0;
 }
 
-/* A byte above a bound, often the next one. */
-static uint8_t above(unsigned bound) { return (uint8_t)(bound + 1 + (chance(50) ? 0 : below(255 - bound))); }
+/* A number above a bound that bytes of this width can hold, often the next one, or one whose low byte is not above. */
+static unsigned above(unsigned bound, unsigned width) {
+    unsigned most = width == 1 ? 255 : 65535;
+    if (width == 2 && bound < 256 && chance(30)) return 256 * (1 + (unsigned)below(255)) + (unsigned)below(bound + 1);
+    return bound >= most || chance(50) ? bound + 1 : bound + 1 + (unsigned)below(most - bound);
+}
 
 /* More than 24 commands, in the right size. */
-static void too_many_commands(struct bytes *catalogue) {
-    unsigned commands = above(MOST_COMMANDS);
-    catalogue->at[0] = (uint8_t)commands;
-    catalogue->size = 2 + commands + 2 * (size_t)catalogue->at[1];
-    for (size_t i = 2; i < catalogue->size; i++) catalogue->at[i] = chance(90) ? 0 : (uint8_t)below(256);
+static void too_many_commands(struct bytes *catalogue, const struct layout *l) {
+    unsigned commands = chance(50) ? MOST_COMMANDS + 1 : MOST_COMMANDS + 1 + (unsigned)below(127 - MOST_COMMANDS);
+    set_counts(catalogue, commands, l->records, l->width);
+    for (size_t i = 1 + l->width; i < catalogue->size; i++) catalogue->at[i] = chance(90) ? 0 : (uint8_t)below(256);
+}
+
+/* More than 1,024 records, in the right size and the second edition. */
+static void too_many_records(struct bytes *catalogue, const struct layout *l) {
+    size_t size = catalogue->size;
+    unsigned more = chance(50) ? 0 : (unsigned)below(chance(5) ? 20000 : 500);
+    set_counts(catalogue, l->commands, MOST_RECORDS + 1 + more, 2);
+    if (catalogue->size > size) memset(catalogue->at + size, 0, catalogue->size - size);
+}
+
+/* The first byte of the other edition, and sometimes the size that R then asks for. */
+static void other_edition(struct bytes *catalogue) {
+    catalogue->at[0] ^= 128;
+    struct layout l = layout_of(catalogue->at, catalogue->size);
+    if (chance(50) && l.records <= 2 * MOST_RECORDS) catalogue->size = whole_size(&l);
 }
 
 void damage_catalogue(struct bytes *catalogue) {
     uint8_t *at = catalogue->at;
-    unsigned commands = at[0], records = at[1];
-    unsigned a = 1 + (unsigned)below(commands), r = 1 + (unsigned)below(records);
-    size_t record = commands + 2 * (size_t)r, in_chain = commands > 0 ? place_in_chain(catalogue, a) : 0;
-    switch (below(14)) {
-    case 0: catalogue->size = below(3); break;
+    struct layout l = layout_of(at, catalogue->size);
+    unsigned bound = l.records, a = 1 + (unsigned)below(l.commands);
+    if (l.records > MOST_RECORDS) l.records = MOST_RECORDS;
+    unsigned r = 1 + (unsigned)below(l.records), reached = l.commands > 0 ? record_in_chain(&l, a) : 0;
+    size_t head = head_place(&l, a), record = record_place(&l, r), in_chain = record_place(&l, reached);
+    size_t high = (chance(30) ? 1 : chance(50) ? head : record + 1) + 1;
+    switch (below(17)) {
+    case 0: catalogue->size = below(4); break;
     case 1: if (catalogue->size > 0) catalogue->size -= chance(50) ? 1 : below(catalogue->size + 1); break;
     case 2: at[catalogue->size++] = (uint8_t)below(3); break;
-    case 3: at[below(2)] = (uint8_t)below(256); break;
-    case 4: too_many_commands(catalogue); break;
-    case 5: if (commands > 0 && records < 255) at[1 + a] = above(records); break;
-    case 6: if (records > 0 && records < 255) at[record + 1] = above(records); break;
-    case 7: if (records > 0) at[record] = 0; break;
-    case 8: if (records > 0 && commands < 255) at[record] = above(commands); break;
-    case 9: if (in_chain > 0) at[in_chain + 1] = at[1 + a]; break;
-    case 10: if (in_chain > 0) at[in_chain + 1] = (uint8_t)((in_chain - commands) / 2); break;
-    case 11: if (in_chain > 0) at[in_chain] = (uint8_t)a; break;
-    case 12: if (in_chain > 0) at[in_chain + 1] = (uint8_t)below(records + 1); break;
+    case 3: at[below(1 + l.width)] = (uint8_t)below(256); break;
+    case 4: too_many_commands(catalogue, &l); break;
+    case 5: too_many_records(catalogue, &l); break;
+    case 6: if (l.commands > 0) set_index(catalogue, &l, head, above(bound, l.width)); break;
+    case 7: if (l.records > 0) set_index(catalogue, &l, record + 1, above(bound, l.width)); break;
+    case 8: if (l.records > 0) at[record] = 0; break;
+    case 9: if (l.records > 0) at[record] = (uint8_t)above(l.commands, 1); break;
+    case 10: if (reached > 0) set_index(catalogue, &l, in_chain + 1, head_of(&l, a)); break;
+    case 11: if (reached > 0) set_index(catalogue, &l, in_chain + 1, reached); break;
+    case 12: if (reached > 0) at[in_chain] = (uint8_t)a; break;
+    case 13: if (reached > 0) set_index(catalogue, &l, in_chain + 1, (unsigned)below(l.records + 1)); break;
+    case 14: if (l.width == 2 && l.records > 0) at[high] = (uint8_t)(chance(50) ? 1 + below(4) : below(256)); break;
+    case 15: other_edition(catalogue); break;
     default: if (catalogue->size > 0) at[below(catalogue->size)] = (uint8_t)below(256); break;
     }
 }
@@ -297,12 +355,12 @@ static void runs_in_order(unsigned commands, size_t size, bool upwards, struct b
 }
 
 void long_settling(struct bytes *catalogue, struct bytes *v, struct bytes *w) {
-    struct records rs = {0};
-    uint8_t head[MOST_COMMANDS + 1] = {0};
+    struct records rs;
     unsigned commands = chance(50) ? MOST_COMMANDS : 2 + (unsigned)below(MOST_COMMANDS - 1);
     size_t size = chance(30) ? MOST_PLAN : commands + below(MOST_PLAN - commands + 1);
-    for (unsigned a = 1; a < commands; a++) head[a] = (uint8_t)add_record(&rs, a + 1, 0, false);
-    write_catalogue(&rs, head, commands, catalogue);
+    begin_records(&rs, commands);
+    for (unsigned a = 1; a < commands; a++) rs.head[a] = (uint16_t)add_record(&rs, a + 1, 0, false);
+    write_catalogue(&rs, catalogue);
     runs_in_order(commands, size, true, v);
     runs_in_order(commands, size, chance(20), w);
 }

@@ -14,7 +14,8 @@ void seed_random(uint64_t seed);
 size_t below(size_t bound);
 bool chance(unsigned percent);
 
-/* A right catalogue; one damage to it, of those that lines 1 to 6 name. */
+/* A right catalogue of either edition, now and then with many records; one damage to it, of those that lines 1 to 6 and
+ * 17 name. */
 void random_catalogue(struct bytes *catalogue);
 void damage_catalogue(struct bytes *catalogue);
 
