@@ -1,7 +1,8 @@
 /* The manual's cases, its edges, its slips, its texts, slots and places, and its table of refusals, as rows with the
  * answers that it gives, but for the pairs of a normal form, which no call for C tells. Every row is put to the library
- * and to the solver, or the reader of texts, once with empty slices as null pointers and once not. Then what busplan.h
- * says of the room for areas and in words of each refusal. */
+ * and to the solver, or the reader of texts, with empty slices as null pointers and not, and with its catalogue as it
+ * stands and, if that is of the first edition, rewritten in the second. Then what busplan.h says of the room for areas
+ * and in words of each refusal. */
 #include "calls.h"
 #include "guarded.h"
 
@@ -73,8 +74,9 @@ struct row {
     {name, WRITE_OUT, catalogue, {TEXT(text), NONE, NONE}, {0, EXACT}, -(refusal), {NONE, NONE}}, \
     {name, TEXT_FAULT, catalogue, {TEXT(text), NONE, NONE}, {EXACT, EXACT}, -(refusal), {PAIR(plan, place), NONE}}
 
-/* Conflicts 1-2, 2-3, 3-4. */
+/* Conflicts 1-2, 2-3, 3-4, in the first edition and in the second. */
 #define K P(4, 3, 1, 2, 3, 0, 2, 0, 3, 0, 4, 0)
+#define K2 P(132, 3, 0, 1, 0, 2, 0, 3, 0, 0, 0, 2, 0, 0, 3, 0, 0, 4, 0, 0)
 #define NO_COMMANDS P(0, 0)
 
 /* Filled by fill_long: plans of fillers, plans of the letter 1, catalogues of 24 and 25 commands without conflicts, a
@@ -86,6 +88,15 @@ enum { LONG_LIST = 140000 };
 static uint8_t fillers[MOST_LEAD_IN + 1], ones[MOST_LEAD_IN + 1], twenty_four[26], twenty_five[27], long_chain[514];
 static uint8_t one_late[130], one_amid[130], undo_late[130], late_one[MOST_PLAN], dense[72], in_turn[MOST_PLAN];
 static uint16_t counting[MOST_PLAN], zeros[MOST_PLAN], zero_one[LONG_LIST];
+
+/* Filled by fill_editions: 127 commands in the first edition; and, in the second, 25 and 127 commands; 1,025 records,
+ * with all else wrong too, of one command and of 25; all pairs of 24 commands, a record for each; two commands of which
+ * the first has its chain begin at record 256 of 256; three of which the first has a chain through 1,024 records, with
+ * 3 at its end; and the same but for the last record, which leads back to the first or has command 1. */
+static uint8_t narrow_127[2 + 127], wide_25[3 + 2 * 25], wide_127[3 + 2 * 127], records_1025[3 + 2 + 3 * 1025];
+static uint8_t commands_and_records[3 + 2 * 25 + 3 * 1025], all_pairs[3 + 2 * 24 + 3 * 276];
+static uint8_t record_256[3 + 2 * 2 + 3 * 256], longest_chain[3 + 2 * 3 + 3 * 1024];
+static uint8_t longest_endless[sizeof longest_chain], longest_own[sizeof longest_chain];
 #define FILLERS(n) {fillers, n}
 #define ONES(n) {ones, n}
 #define TWENTY_FOUR {twenty_four, sizeof twenty_four}
@@ -97,6 +108,8 @@ static uint16_t counting[MOST_PLAN], zeros[MOST_PLAN], zero_one[LONG_LIST];
 #define LATE_ONE {late_one, sizeof late_one}
 #define DENSE {dense, sizeof dense}
 #define IN_TURN(n) {in_turn, n}
+#define WHOLE(array) {array, sizeof array}
+#define CUT(array) {array, sizeof array - 1}
 #define COUNTING(n) {(const uint8_t *)counting, (n) * sizeof(uint16_t)}
 #define ZEROS(n) {(const uint8_t *)zeros, (n) * sizeof(uint16_t)}
 #define ZERO_ONE(n) {(const uint8_t *)zero_one, (n) * sizeof(uint16_t)}
@@ -131,6 +144,55 @@ static void fill_long(void) {
         long_chain[2 + 2 * r] = 2;
         long_chain[2 + 2 * r + 1] = r < 255 ? (uint8_t)(r + 1) : 0;
     }
+}
+
+/* N, R, and a record of the second edition. */
+static void set_counts(uint8_t *to, unsigned commands, unsigned records) {
+    to[0] = (uint8_t)(128 + commands);
+    to[1] = (uint8_t)records;
+    to[2] = (uint8_t)(records >> 8);
+}
+
+static void set_record(uint8_t *to, unsigned record, unsigned command, unsigned next) {
+    uint8_t *at = to + 2 * (to[0] - 128) + 3 * record;
+    at[0] = (uint8_t)command;
+    at[1] = (uint8_t)next;
+    at[2] = (uint8_t)(next >> 8);
+}
+
+/* The chain of each command has the larger ones. */
+static void fill_all_pairs(void) {
+    unsigned record = 0;
+    set_counts(all_pairs, 24, 276);
+    for (unsigned a = 1; a < 24; a++) {
+        all_pairs[1 + 2 * a] = (uint8_t)(record + 1);
+        all_pairs[2 + 2 * a] = (uint8_t)((record + 1) >> 8);
+        for (unsigned b = a + 1; b <= 24; b++) {
+            record++;
+            set_record(all_pairs, record, b, b < 24 ? record + 1 : 0);
+        }
+    }
+}
+
+static void fill_editions(void) {
+    narrow_127[0] = 127;
+    set_counts(wide_25, 25, 0);
+    set_counts(wide_127, 127, 0);
+    memset(records_1025, 255, sizeof records_1025);
+    set_counts(records_1025, 1, 1025);
+    set_counts(commands_and_records, 25, 1025);
+    fill_all_pairs();
+    set_counts(record_256, 2, 256);
+    record_256[4] = 1;
+    for (unsigned r = 1; r <= 256; r++) set_record(record_256, r, 2, 0);
+    set_counts(longest_chain, 3, 1024);
+    longest_chain[3] = 1;
+    for (unsigned r = 1; r < 1024; r++) set_record(longest_chain, r, 2, r + 1);
+    set_record(longest_chain, 1024, 3, 0);
+    memcpy(longest_endless, longest_chain, sizeof longest_chain);
+    memcpy(longest_own, longest_chain, sizeof longest_chain);
+    set_record(longest_endless, 1024, 2, 1);
+    set_record(longest_own, 1024, 1, 0);
 }
 
 static const struct row rows[] = {
@@ -213,6 +275,61 @@ static const struct row rows[] = {
     NORMAL("a pair named twice", P(2, 2, 1, 2, 2, 0, 1, 0), P(2, 1), EXACT, 2, P(2, 1)),
     NORMAL("a pair named by the larger command", P(2, 1, 0, 1, 1, 0), P(2, 1), EXACT, 2, P(2, 1)),
     NORMAL("a chain of 255 records", LONG_CHAIN, P(2, 1), EXACT, 2, P(2, 1)),
+
+    /* Catalogues of the second edition */
+    NORMAL("K in the second edition", K2, P(2, 4, 3, 1, U(3)), EXACT, 3, P(2, 1, 4)),
+    LOOP("K in the second edition: loops", K2, P(1, 2), P(2, 1), EXACT, JOINED),
+    LOOP("K in the second edition: an area of one byte less", K2, P(1, 2), P(2, 1), 15, -9),
+    REFUSED("K in the second edition: byte 5", K2, P(5), EXACT, 8),
+    REFUSED("K in the second edition: byte 133", K2, P(133), EXACT, 8),
+    NORMAL("no commands in the second edition", P(128, 0, 0), P(0, 0), EXACT, 0, NONE),
+    LOOP("two empty loops in the second edition", P(128, 0, 0), NONE, NONE, 0, JOINED),
+    REFUSED("no commands in the second edition: byte 1", P(128, 0, 0), P(1), EXACT, 8),
+    FAULTY("128 alone", P(128), NONE, NONE, NONE, 1, 0, 0),
+    FAULTY("128 and a byte", P(128, 0), NONE, NONE, NONE, 1, 0, 0),
+    FAULTY("a byte more in the second edition", P(128, 0, 0, 0), NONE, NONE, NONE, 1, 0, 0),
+    FAULTY("heads of one byte", P(130, 0, 0, 0, 0), NONE, NONE, NONE, 1, 0, 0),
+    FAULTY("records of two bytes", P(130, 1, 0, 1, 0, 0, 0, 2, 0), NONE, NONE, NONE, 1, 0, 0),
+    FAULTY("R with its high byte first", P(130, 0, 1, 1, 0, 0, 0, 2, 0, 0), NONE, NONE, NONE, 1, 0, 0),
+    FAULTY("127 commands in the first edition", WHOLE(narrow_127), NONE, NONE, NONE, 2, 0, 0),
+    FAULTY("25 commands in the second edition", WHOLE(wide_25), ONES(1025), P(5), P(5), 2, 0, 0),
+    FAULTY("25 commands in the second edition and a byte less", CUT(wide_25), NONE, NONE, NONE, 1, 0, 0),
+    FAULTY("127 commands in the second edition", WHOLE(wide_127), NONE, NONE, NONE, 2, 0, 0),
+    FAULTY("1,025 records", WHOLE(records_1025), ONES(1025), P(5), P(5), 17, 0, 1),
+    FAULTY("1,025 records and a byte less", CUT(records_1025), NONE, NONE, NONE, 1, 0, 0),
+    FAULTY("1,025 records of 25 commands", WHOLE(commands_and_records), NONE, NONE, NONE, 2, 0, 0),
+    FAULTY("65,535 records in a wrong size", P(128, 255, 255), NONE, NONE, NONE, 1, 0, 0),
+    FAULTY("a head of 256, R = 1", P(129, 1, 0, 0, 1, 1, 0, 0), NONE, NONE, NONE, 3, 0, 3),
+    FAULTY("a head of R + 1", P(129, 1, 0, 2, 0, 1, 0, 0), NONE, NONE, NONE, 3, 0, 3),
+    FAULTY("the second head of 257, R = 1", P(130, 1, 0, 1, 0, 1, 1, 2, 0, 0), NONE, NONE, NONE, 3, 0, 5),
+    FAULTY("a next index of 256 before a command", P(130, 1, 0, 1, 0, 0, 0, 0, 0, 1), NONE, NONE, NONE, 3, 0, 8),
+    FAULTY("the next index of record 2 in the second edition", P(130, 2, 0, 1, 0, 0, 0, 2, 0, 0, 2, 3, 0), NONE, NONE,
+           NONE, 3, 0, 11),
+    FAULTY("a record of command 0 in the second edition", P(130, 1, 0, 1, 0, 0, 0, 0, 0, 0), NONE, NONE, NONE, 4, 0, 7),
+    FAULTY("record 2 of command 130", P(130, 2, 0, 1, 0, 0, 0, 2, 0, 0, 130, 0, 0), NONE, NONE, NONE, 4, 0, 10),
+    FAULTY("a record with no commands in the second edition", P(128, 1, 0, 1, 0, 0), NONE, NONE, NONE, 4, 0, 3),
+    FAULTY("5 of command 2 in the second edition", P(130, 1, 0, 0, 0, 1, 0, 1, 1, 0), NONE, NONE, NONE, 5, 0, 5),
+    FAULTY("6 of command 2 in the second edition", P(130, 1, 0, 0, 0, 1, 0, 2, 0, 0), NONE, NONE, NONE, 6, 0, 5),
+    NORMAL("an unreached record in the second edition", P(130, 1, 0, 0, 0, 0, 0, 1, 1, 0), P(2, 1), EXACT, 2, P(1, 2)),
+    NORMAL("a chain that begins at record 256", WHOLE(record_256), P(2, 1), EXACT, 2, P(2, 1)),
+    NORMAL("a chain of 1,024 records", WHOLE(longest_chain), P(3, 2, 1), EXACT, 3, P(2, 3, 1)),
+    SAME("the last record of a chain of 1,024", WHOLE(longest_chain), P(3, 1), P(1, 3), 0),
+    FAULTLESS("a chain of 1,024 records", WHOLE(longest_chain), P(1), P(2), NONE),
+    FAULTY("a chain of 1,024 records that doesn't end", WHOLE(longest_endless), NONE, NONE, NONE, 5, 0, 3),
+    FAULTY("command 1 at the end of its chain of 1,024 records", WHOLE(longest_own), NONE, NONE, NONE, 6, 0, 3),
+    SLOTTED("all 276 pairs, a record for each", WHOLE(all_pairs), IN_TURN(1024), EXACT, EXACT, 1024, IN_TURN(1024),
+            COUNTING(1024), 1024),
+    SAME("all 276 pairs: the last two commands", WHOLE(all_pairs), P(23, 24), P(24, 23), 0),
+    REFUSED("1,025 records before a plan", WHOLE(records_1025), P(5), EXACT, 17),
+    CORE_OF("1,025 records before a core", WHOLE(records_1025), P(5), 0, -17, NONE),
+    SAME("1,025 records before two plans", WHOLE(records_1025), P(5), ONES(1025), -17),
+    LOOP("1,025 records before two loops", WHOLE(records_1025), P(5), ONES(1025), 0, -17),
+    LEAD("1,025 records before a lead-in", WHOLE(records_1025), P(5), P(5), ONES(49153), 0, 0, -17, NONE, NONE),
+    NO_SLOTS("1,025 records before slots", WHOLE(records_1025), P(5), 0, 0, 17),
+    MISPLACED("1,025 records before the places", WHOLE(records_1025), P(5), NUMBERS(0), 17, 0, 1),
+    WRONG("1,025 records before the text", WHOLE(records_1025), "x", 17, 0, 1),
+    WRITES("a text under K in the second edition", K2, "4 -(1)2", 3, 3, P(4, U(1), U(1))),
+    WRONG("command 5 of 4 in the second edition", K2, "5", 8, 1, 0),
 
     /* Cores */
     CORE_OF("the core of an empty plan", K, NONE, EXACT, 0, NONE),
@@ -507,9 +624,29 @@ static size_t area_size(const struct row *row, const struct question *q, unsigne
     return row->area[area] == ONE_LESS ? exact - each : (size_t)row->area[area] * each;
 }
 
-static void run(const struct row *row, bool library, bool nulls) {
+/* The catalogue of a row, rewritten in the second edition where it is of the first and that is asked for. */
+static struct slice catalogue_of(const struct row *row, bool rewritten) {
+    static uint8_t bytes[2 * sizeof long_chain];
+    struct slice from = row->catalogue;
+    if (!rewritten || !is_first_edition(from.at, from.size)) return from;
+    return (struct slice){bytes, rewrite_catalogue(from.at, from.size, bytes)};
+}
+
+/* What a row writes in an area: a fault of a catalogue that is rewritten has its place there. */
+static struct slice written_in(const struct row *row, unsigned area, bool rewritten) {
+    static uint64_t fault[2];
+    struct slice written = row->written[area];
+    bool first = is_first_edition(row->catalogue.at, row->catalogue.size);
+    if (!rewritten || !first || !tells_fault(row->call) || row->answer == 0 || row->answer == -BUSPLAN_PLACES)
+        return written;
+    memcpy(fault, written.at, sizeof fault);
+    if (fault[0] == 0 && fault[1] > 0) fault[1] = rewritten_place(row->catalogue.at, fault[1]);
+    return (struct slice){(const uint8_t *)fault, sizeof fault};
+}
+
+static void run(const struct row *row, bool library, bool nulls, bool rewritten) {
     const char *who = library ? "library" : "solver";
-    struct question q = {.call = row->call, .catalogue = give(row->catalogue, nulls)};
+    struct question q = {.call = row->call, .catalogue = give(catalogue_of(row, rewritten), nulls)};
     struct area area[MOST_AREAS] = {{0}};
     for (unsigned i = 0; i < 3; i++) q.plan[i] = give(row->plan[i], nulls);
     for (unsigned i = 0; i < areas_of[row->call]; i++) {
@@ -524,12 +661,13 @@ static void run(const struct row *row, bool library, bool nulls) {
         return;
     }
     if (answer != row->answer) fail(row, who, "another answer", answer);
-    for (unsigned i = 0; i < areas_of[row->call]; i++)
-        if (!guarded_holds(&lent[i], row->written[i].at, row->written[i].size))
-            fail(row, who, "other bytes in an area", answer);
+    for (unsigned i = 0; i < areas_of[row->call]; i++) {
+        struct slice written = written_in(row, i, rewritten);
+        if (!guarded_holds(&lent[i], written.at, written.size)) fail(row, who, "other bytes in an area", answer);
+    }
 }
 
-/* A row that no line from 1 to 8 refuses is refused by 9 just where an area has a byte or number less than busplan.h
+/* A row that no other line refuses is refused by 9 just where an area has a byte or number less than busplan.h
  * says. What a text needs is in no macro, but its rows have areas of just that size and less. */
 static void check_room(const struct row *row) {
     struct question q = {row->call, row->catalogue, {row->plan[0], row->plan[1], row->plan[2]}};
@@ -587,12 +725,14 @@ static void check_texts(void) {
 int main(void) {
     size_t count = sizeof rows / sizeof rows[0];
     fill_long();
+    fill_editions();
     for (unsigned i = 0; i < MOST_AREAS; i++) guarded_open(&lent[i]);
     for (size_t i = 0; i < count; i++) {
-        for (unsigned way = 0; way < 4; way++) run(&rows[i], way / 2 == 1, way % 2 == 1);
+        for (unsigned way = 0; way < 8; way++) run(&rows[i], way / 4 == 1, way % 2 == 1, way / 2 % 2 == 1);
         check_room(&rows[i]);
     }
     check_texts();
-    printf("cases: %zu rows, library and solver: all as the manual says; room and texts as busplan.h says\n", count);
+    printf("cases: %zu rows, library and solver, in both editions: all as the manual says; room and texts as busplan.h "
+           "says\n", count);
     return 0;
 }

@@ -44,8 +44,7 @@ static inline unsigned record_next(const struct layout *l, unsigned r) { return 
 static inline bool is_first_edition(const uint8_t *bytes, size_t size) { return size == 0 || bytes[0] < 128; }
 
 /* Writes a catalogue of the first edition in the second, right or not, and returns its new size, at most twice the old
- * one: R, the heads and the next indices get a high byte. One that is too short for N and R stays as it is. Of the
- * bytes before a head or a record it returns where that stands in the second edition. */
+ * one: R, the heads and the next indices get a high byte. One that is too short for N and R stays as it is. */
 static inline size_t rewrite_catalogue(const uint8_t *bytes, size_t size, uint8_t *to) {
     size_t records = size > 0 ? 2 + (size_t)bytes[0] : 2, written = 0;
     for (size_t i = 0; i < size; i++) {
@@ -55,6 +54,13 @@ static inline size_t rewrite_catalogue(const uint8_t *bytes, size_t size, uint8_
     }
     if (size > 1) to[0] += 128;
     return written;
+}
+
+/* Where a head, or a byte of a record, stands then; place 0 stays. */
+static inline size_t rewritten_place(const uint8_t *bytes, size_t place) {
+    size_t records = 2 + (size_t)bytes[0], behind = place - records;
+    if (place < records) return place == 0 ? 0 : 2 * place - 1;
+    return 2 * records - 1 + 3 * (behind / 2) + behind % 2;
 }
 
 #endif
