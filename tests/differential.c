@@ -1,6 +1,7 @@
 /* Puts random questions about plans to the library and to the solver and compares the answers, every byte of the areas,
  * and bytes beside them. Usage: differential [SEED [CALLS]]. A difference prints the question in hexadecimal and fails.
- * For short plans searches say what the answers must be. notation.c does all this for texts. */
+ * A question with a catalogue of the first edition is put once more with the catalogue written in the second. For short
+ * plans searches say what the answers must be. notation.c does all this for texts. */
 #include "brute.h"
 #include "calls.h"
 #include "guarded.h"
@@ -12,13 +13,18 @@
 #include <stdlib.h>
 #include <string.h>
 
-static uint64_t seed = 1, calls;
+static uint64_t seed = 1, calls, rewritten_calls;
 
 /* The inputs as drawn, the guarded memory they are handed over in, and the areas: the library's and the solver's.
  * Behind the plans stands the list of places, which some calls take as their plan 2. */
 enum { LIST = 3 };
 static struct bytes catalogue, plan[4];
 static struct guarded given[5], lent[MOST_AREAS];
+
+/* The catalogue rewritten in the second edition, and the areas for that. */
+static struct bytes rewritten;
+static struct guarded given_again, lent_again[MOST_AREAS];
+
 static _Alignas(uint64_t) uint8_t expected_bytes[MOST_AREAS][MOST_GUARDED];
 static struct question question;
 
@@ -135,6 +141,39 @@ static void check_slots(size_t size) {
     if (in_use != longest) fail("the longest chain has not as many letters as there are slots in use");
 }
 
+/* Lends an area again in which the same bytes stand that stood in the first one before the call. */
+static struct area lend_again(unsigned i) {
+    guarded_again(&lent_again[i], &lent[i], chance(50));
+    return (struct area){lent[i].size == 0 && chance(50) ? NULL : lent_again[i].at, lent[i].size};
+}
+
+/* What stands in an area of the first call, and must stand in that of the second: the place of a fault of the catalogue
+ * is another one there. */
+static const uint8_t *expected_again(int64_t got, unsigned i) {
+    static uint64_t fault[2];
+    if (!tells_fault(question.call) || got == 0 || got == -BUSPLAN_PLACES) return lent[i].at;
+    memcpy(fault, lent[i].at, sizeof fault);
+    if (fault[0] == 0 && fault[1] > 0) fault[1] = rewritten_place(catalogue.at, fault[1]);
+    return (const uint8_t *)fault;
+}
+
+/* Puts the question to the library once more, with the catalogue rewritten: it must give the same answer and leave the
+ * same bytes, also as a lead-in. */
+static void compare_rewritten(int64_t got) {
+    struct area area[MOST_AREAS] = {{0}};
+    struct question again = question;
+    rewritten.size = rewrite_catalogue(catalogue.at, catalogue.size, rewritten.at);
+    again.catalogue = give(&given_again, &rewritten);
+    for (unsigned i = 0; i < areas_of[again.call]; i++) area[i] = lend_again(i);
+    calls++;
+    rewritten_calls++;
+    if (ask_library(&again, area) != got) fail("another answer with the catalogue rewritten");
+    if (!guarded_holds(&given_again, rewritten.at, rewritten.size)) fail("the rewritten catalogue is changed");
+    for (unsigned i = 0; i < areas_of[again.call]; i++)
+        if (!guarded_holds(&lent_again[i], expected_again(got, i), lent[i].size))
+            fail("other bytes with the catalogue rewritten");
+}
+
 /* Asks both and compares. Returns the library's answer. */
 static int64_t compare(enum call call) {
     struct area area[MOST_AREAS] = {{0}}, expected_area[MOST_AREAS] = {{0}};
@@ -164,6 +203,7 @@ static int64_t compare(enum call call) {
         if (!guarded_holds(&given[1 + drawn(call, i)], from->at, from->size)) fail("a plan is changed, or the places");
     }
     if (!fault_tells(&question, got)) fail("another refusal is told as the fault");
+    if (is_first_edition(catalogue.at, catalogue.size) && catalogue.size <= MOST_LETTERS / 2) compare_rewritten(got);
     return got;
 }
 
@@ -367,9 +407,14 @@ int main(int count, char **argument) {
     seed_random(seed);
     catch_stops();
     for (unsigned i = 0; i < 5; i++) guarded_open(&given[i]);
-    for (unsigned i = 0; i < MOST_AREAS; i++) guarded_open(&lent[i]);
+    guarded_open(&given_again);
+    for (unsigned i = 0; i < MOST_AREAS; i++) {
+        guarded_open(&lent[i]);
+        guarded_open(&lent_again[i]);
+    }
     while (calls < wanted) round_of_calls();
     print_answers();
-    printf("differential: %" PRIu64 " calls, seed %" PRIu64 ": all agree\n", calls, seed);
+    printf("differential: %" PRIu64 " calls, %" PRIu64 " of them with a rewritten catalogue, seed %" PRIu64
+           ": all agree\n", calls, rewritten_calls, seed);
     return 0;
 }

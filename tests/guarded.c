@@ -50,6 +50,10 @@ void guarded_noise(struct guarded *g, size_t size, bool behind, size_t noise_fro
     memcpy(g->at - before(g), g->noise - before(g), before(g) + size + after(g));
 }
 
+void guarded_again(struct guarded *g, const struct guarded *other, bool behind) {
+    guarded_noise(g, other->size, behind, (size_t)(other->noise - noise) - GUARD);
+}
+
 void guarded_bytes(struct guarded *g, const uint8_t *bytes, size_t size, bool behind) {
     guarded_noise(g, size, behind, size);
     memcpy(g->at, bytes, size);

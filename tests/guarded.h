@@ -20,6 +20,9 @@ void guarded_open(struct guarded *g);
 /* Sets size bytes aside, against the page behind or against the page before, with noise in them and beside them. */
 void guarded_noise(struct guarded *g, size_t size, bool behind, size_t noise_from);
 
+/* As many bytes as another has, with the same noise. */
+void guarded_again(struct guarded *g, const struct guarded *other, bool behind);
+
 /* The same with given bytes in them. */
 void guarded_bytes(struct guarded *g, const uint8_t *bytes, size_t size, bool behind);
 
