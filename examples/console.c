@@ -155,32 +155,47 @@ static bool read_pair(struct word word, unsigned most, unsigned *a, unsigned *b)
     return *a >= 1 && *a < *b && *b <= most;
 }
 
-/* Writes the catalogue's bytes: for each command a chain of the larger commands that conflict with it. A record that
- * is there already, with the same command and the same next record, is used again, so chains share their tails.
- * Command b stands in at most b - 1 chains and has at most 2^(24 - b) different tails behind it. The smaller of the
- * two, summed for b from 2 to 24, is 202: so many records are always enough. */
-static void pack_catalogue(void) {
-    uint8_t record[256][2];
-    unsigned records = 0;
-    for (unsigned a = 1; a <= commands; a++) {
-        unsigned next = 0;
-        for (unsigned b = commands; b > a; b--) {
-            if (!conflicts.holds[a][b]) continue;
-            unsigned r = 1;
-            while (r <= records && (record[r][0] != b || record[r][1] != next)) r++;
-            if (r > records) {
-                records = r;
-                record[r][0] = (uint8_t)b;
-                record[r][1] = (uint8_t)next;
-            }
-            next = r;
-        }
-        catalogue[1 + a] = (uint8_t)next;
+/* Whether the catalogue is written in the second edition, in which R and every index take two bytes. */
+static bool second_edition;
+
+static void put_byte(unsigned byte) { catalogue[catalogue_size++] = (uint8_t)byte; }
+
+static void put_index(unsigned index) {
+    put_byte(index & 255);
+    if (second_edition) put_byte(index >> 8);
+}
+
+/* How many larger commands conflict with command a. */
+static unsigned chain_size(unsigned a) {
+    unsigned size = 0;
+    for (unsigned b = a + 1; b <= commands; b++) size += conflicts.holds[a][b];
+    return size;
+}
+
+/* Puts the records of the chain of command a, of which first is the number of the first. */
+static void put_chain(unsigned a, unsigned first) {
+    unsigned left = chain_size(a), next = first;
+    for (unsigned b = a + 1; b <= commands; b++) {
+        if (!conflicts.holds[a][b]) continue;
+        put_byte(b);
+        next++;
+        left--;
+        put_index(left > 0 ? next : 0);
     }
-    catalogue[0] = (uint8_t)commands;
-    catalogue[1] = (uint8_t)records;
-    for (unsigned r = 1; r <= records; r++) memcpy(catalogue + commands + 2 * r, record[r], 2);
-    catalogue_size = 2 + commands + 2 * records;
+}
+
+/* Writes the catalogue's bytes: for each command a chain of the larger commands that conflict with it, with one record
+ * for each pair. The first edition counts up to 255 records; for more pairs, 276 at the most, the second is written. */
+static void pack_catalogue(void) {
+    unsigned first[BUSPLAN_MAX_COMMANDS + 2] = {0, 1}; /* the number of the first record of each chain */
+    for (unsigned a = 1; a <= commands; a++) first[a + 1] = first[a] + chain_size(a);
+    unsigned records = first[commands + 1] - 1;
+    second_edition = records > 255;
+    catalogue_size = 0;
+    put_byte(second_edition ? 128 + commands : commands);
+    put_index(records);
+    for (unsigned a = 1; a <= commands; a++) put_index(chain_size(a) > 0 ? first[a] : 0);
+    for (unsigned a = 1; a <= commands; a++) put_chain(a, first[a]);
 }
 
 /* ---- Mistakes in the catalogue */

@@ -194,25 +194,52 @@ for share in 0 10 30 50 70 90 100; do
   random_pairs "$share" "$share" "$out/made/pairs_$share"
 done
 
-# The most pairs, 276, need 23 records. The most records, 202, are needed for these 18 chains: the chain of command a
-# has every command from a + 1 to 19, and of 20 to 24 those that the bits of 32 - a say, so that no two tails agree.
-all_pairs=$(awk 'BEGIN { for (a = 1; a <= 24; a++) for (b = a + 1; b <= 24; b++) printf " %d-%d", a, b }')
-printf 'commands 24\nconflicts%s\ncatalogue\n' "$all_pairs" | made all_pairs "$(awk -v pairs="$all_pairs" 'BEGIN {
-  printf "24 commands\nconflicts:%s\nbytes: 18 17", pairs
-  for (a = 1; a <= 24; a++) printf " %02x", 24 - a
-  for (r = 1; r <= 23; r++) printf " %02x %02x", 25 - r, r - 1
-}')\n" ''
-awk 'BEGIN {
-  print "commands 24"
-  for (a = 1; a <= 18; a++) {
-    printf "conflicts"
-    for (b = a + 1; b <= 19; b++) printf " %d-%d", a, b
-    tail = 32 - a
-    for (b = 24; b >= 20; b--) { if (tail % 2) printf " %d-%d", a, b; tail = int(tail / 2) }
-    print ""
-  }
-  print "catalogue"
-}' >"$out/most_records.in"
+# A record for each pair: up to 255 pairs in the first edition, and more, up to 276, in the second, in which R and every
+# index take two bytes, low byte first. A line that fails changes nothing of it.
+some_pairs() { # N: the first N pairs of 24 commands, each behind a blank
+  awk -v n="$1" 'BEGIN { for (a = 1; a <= 24; a++) for (b = a + 1; b <= 24; b++) if (n-- > 0) printf " %d-%d", a, b }'
+}
+catalogue_of() { # N: what the console shows of these pairs
+  awk -v n="$1" -v pairs="$(some_pairs "$1")" '
+    function in_bytes(number) { return sprintf(second ? " %02x %02x" : " %02x", number % 256, int(number / 256)) }
+    BEGIN {
+      second = n > 255
+      printf "24 commands\nconflicts:%s\nbytes: %02x%s", pairs, 24 + 128 * second, in_bytes(n)
+      for (a = 1; a <= 24; a++) {
+        printf "%s", in_bytes(a < 24 && used < n ? used + 1 : 0)
+        for (b = a + 1; b <= 24 && used < n; b++) {
+          used++
+          records = records sprintf(" %02x", b) in_bytes(b < 24 && used < n ? used + 1 : 0)
+        }
+      }
+      print records
+    }'
+}
+for pairs in 1 254 255 256 257 276; do
+  printf 'commands 24\nconflicts%s\ncatalogue\n' "$(some_pairs "$pairs")" |
+    made "all_pairs_$pairs" "$(catalogue_of "$pairs")\n" ''
+done
+printf 'commands 24\nconflicts%s\nconflicts 24-22x\nconflicts 24-23 22-24 24-24\nconflicts\ncatalogue\n' \
+  "$(some_pairs 255)" | made all_pairs_with_mistakes "$(corrected 3)\n$(corrected 4)\n$(catalogue_of 255)\n" "\
+line 3: not a pair of two different commands from 1 to 24: 24-22x
+line 4: not a pair of two different commands from 1 to 24: 24-24
+"
+{
+  printf 'commands 24\nconflicts%s\n' "$(some_pairs 276)"
+  echo 'normal 24 1 -24'
+  echo 'equal 23 24 / 24 23'
+  echo 'loops 1 2 24 / 24 1 2'
+  echo 'commands 24'
+  echo 'normal 24 1 -24'
+} | made all_pairs_asked "\
+normal form: 24 1 -24
+not equal; the normal forms are
+  plan 1: 23 24
+  plan 2: 24 23
+joined, lead-in
+conflicts cleared: 276
+normal form: 1
+" ''
 
 # ---- Lead-ins: what loops says is put to check
 
@@ -260,11 +287,6 @@ done
 session=tests/console_inputs/manual_session
 { sed 's/^/> /' "$session.in"; cat "$session.out" "$session.err"; } | while IFS= read -r line; do
   grep -qxF "    $line" docs/MANUAL.md || fail "docs/MANUAL.md does not show this line: $line"
-done
-
-for build in $builds; do
-  run "$build" "$out/most_records.in"
-  grep '^bytes: 18 ca ' "$out/printed" >/dev/null || fail "most_records: $build build: not 202 records"
 done
 
 # ---- Input and output that fail
