@@ -125,8 +125,20 @@ refused "6 0 4" "the catalogue has, at place 4 (counted from 0), the head of com
 refused "7 2 0" "plan 2 has more than 1,024 bytes" "$k"'\000\000\001\004'"$(zeros 1025)"
 refused "8 1 0" "plan 1 has, at place 0 (counted from 0), a byte that is not 0, 1 to N or 129 to 128 + N" \
   "$k"'\001\000\005\000\000'
-refused "11 0 0" "the input is badly framed: it ends early, has bytes left over or is longer than 4,096 bytes" \
+refused "11 0 0" "the input is badly framed: it ends early, has bytes left over or is longer than 8,192 bytes" \
   "$k"'\000\000\000\000\000'
+
+# The same of the second edition. The program gets every byte as it is, also the first.
+k2='\204\003\000\001\000\002\000\003\000\000\000\002\000\000\003\000\000\004\000\000'
+answers "joined 1" "$joined 1 letter." "$k2"'\003\000\001\002\201\001\000\002'
+refused "2 0 0" "the catalogue has more than 24 commands" '\231\000\000'"$(zeros 50)"'\000\000\000\000'
+refused "17 0 1" "the catalogue has more than 1,024 records" '\200\001\004'"$(zeros 3075)"'\000\000\000\000'
+refused "5 0 5" "the catalogue has, at place 5 (counted from 0), the head of command 2, whose chain doesn't end" \
+  '\202\001\000\000\000\001\000\001\001\000\000\000\000\000'
+refused "6 0 7" "the catalogue has, at place 7 (counted from 0), the head of command 3, which stands in its own chain" \
+  '\203\001\000\000\000\000\000\001\000\003\000\000\000\000\000\000'
+refused "11 0 0" "the input is badly framed: it ends early, has bytes left over or is longer than 8,192 bytes" \
+  '\200\000'
 
 # The first time, a time when nothing has changed, and a proof that fails, in a repository of two crates and one more
 # that the program does not need.
