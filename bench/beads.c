@@ -1,5 +1,6 @@
 /* Four calls of docs/MANUAL.md, normal form, equal, loops and lead-in check, on pilings with one byte a bead, written
- * for speed. It keeps nothing between calls, and takes up to 1.4 megabytes of stack. See beads.h. */
+ * for speed. It reads catalogues of the first edition, keeps nothing between calls, and takes up to 1.4 megabytes of
+ * stack. See beads.h. */
 #include "beads.h"
 
 #include "busplan.h"
