@@ -2,6 +2,7 @@
 // again and again.
 
 ghost use Prim.Native.Nat.{_≤_};
+use crate::catalogue::commands;
 use crate::catalogue::tied;
 use crate::word::Word;
 use crate::word::at;
@@ -46,7 +47,7 @@ fn reduced(c: &[u8], plan: &[u8]) -> Word {
 pub fn letters(c: &[u8]) -> usize
     ensures { λ r. ⌜ (2 ≤ r) × (r ≤ 64) ⌝ }
 {
-    2 + 2 * (at(c, 0) % 32) as usize
+    2 + 2 * (commands(c) % 32)
 }
 
 // The letter with number n: 1, −1, 2, −2 and so on.

@@ -2,6 +2,10 @@
 // its number at place 63, its plan at 62 and its place at 60 and 61, high byte first; the number is 0 where nothing is
 // wrong.
 
+use crate::catalogue::commands;
+use crate::catalogue::index;
+use crate::catalogue::is_second;
+use crate::catalogue::records;
 use crate::catalogue::walk;
 use crate::form::normal_form;
 use crate::word::Word;
@@ -23,13 +27,19 @@ pub fn or(first: Word, second: Word) -> Word {
 
 // Line 1.
 fn wrong_size(c: &[u8]) -> bool {
-    c.len() != 2 + at(c, 0) as usize + 2 * (at(c, 1) as usize)
+    let size = if is_second(c) {
+        3 + 2 * commands(c) + 3 * records(c)
+    } else {
+        2 + commands(c) + 2 * records(c)
+    };
+    c.len() != size
 }
 
-// What stands at place k of a catalogue: a head (1), the command of a record (2) or its next record (3).
-fn part(c: &[u8], k: usize) -> usize {
-    let records = 2 + at(c, 0) as usize;
-    if k < 2 || c.len() <= k {
+// What stands at place k of a catalogue of the first edition: a head (1), the command of a record (2), its next index
+// (3) or none of these (0).
+fn part_of_first(c: &[u8], k: usize) -> usize {
+    let records = 2 + commands(c);
+    if k < 2 {
         0
     } else if k < records {
         1
@@ -38,14 +48,51 @@ fn part(c: &[u8], k: usize) -> usize {
     }
 }
 
+// Byte k of a record of the second edition, in the same numbers.
+fn of_record(k: usize) -> usize {
+    match k {
+        0 => 2,
+        1 => 3,
+        _ => 0,
+    }
+}
+
+// The same in the second edition, where the high byte of an index is none of these.
+fn part_of_second(c: &[u8], k: usize) -> usize {
+    let records = 3 + 2 * commands(c);
+    if k < 3 {
+        0
+    } else if k < records {
+        k % 2
+    } else {
+        of_record((k - records) % 3)
+    }
+}
+
+// The same in either.
+fn part(c: &[u8], k: usize) -> usize {
+    if c.len() <= k {
+        0
+    } else if is_second(c) {
+        part_of_second(c, k)
+    } else {
+        part_of_first(c, k)
+    }
+}
+
+// Line 17, whose place is 1.
+fn wrong_count(c: &[u8], k: usize) -> bool {
+    k == 1 && 1024 < records(c)
+}
+
 // Line 3.
 fn wrong_index(c: &[u8], k: usize) -> bool {
-    part(c, k) % 2 == 1 && at(c, 1) < at(c, k)
+    part(c, k) % 2 == 1 && records(c) < index(c, k)
 }
 
 // Line 4.
 fn wrong_command(c: &[u8], k: usize) -> bool {
-    part(c, k) == 2 && (at(c, k) == 0 || at(c, 0) < at(c, k))
+    part(c, k) == 2 && (at(c, k) == 0 || commands(c) < at(c, k) as usize)
 }
 
 // Line 5, where the goal is no head, and line 6, where it is the same head.
@@ -55,19 +102,20 @@ fn wrong_chain(c: &[u8], k: usize, goal: usize) -> bool {
 
 // Line 8.
 fn wrong_byte(c: &[u8], b: u8) -> bool {
-    b == 128 || at(c, 0) < b % 128
+    b == 128 || commands(c) < (b % 128) as usize
 }
 
-// Does a line hold at place k of the catalogue (1 to 6) or of the plan (7 and 8).
+// Does a line hold at place k of the catalogue (1 to 6 and 17) or of the plan (7 and 8).
 fn holds(c: &[u8], plan: &[u8], line: u8, k: usize) -> bool {
     match line {
         1 => wrong_size(c),
-        2 => 24 < at(c, 0),
+        2 => 24 < commands(c),
         3 => wrong_index(c, k),
         4 => wrong_command(c, k),
         5 => wrong_chain(c, k, 0),
         6 => wrong_chain(c, k, k),
         7 => 1024 < plan.len(),
+        17 => wrong_count(c, k),
         _ => wrong_byte(c, at(plan, k)),
     }
 }
@@ -139,9 +187,10 @@ fn wrong_places(places: &[u16], letters: usize) -> Word {
     blank()
 }
 
-// Of a catalogue.
+// Of a catalogue, by lines 1, 2, 17 and 3 to 6.
 pub fn refusal_of_catalogue(c: &[u8]) -> Word {
-    refused(c, b"", 1, 7, 0)
+    let first = or(refused(c, b"", 1, 3, 0), refused_by(c, b"", 17, 0));
+    or(first, refused(c, b"", 3, 7, 0))
 }
 
 // Of a core.
@@ -184,7 +233,7 @@ fn refusal_of_two(c: &[u8], v: &[u8], w: &[u8]) -> Word {
 pub fn refusal_of_loops(c: &[u8], v: &[u8], w: &[u8], room: usize) -> Word {
     or(
         refusal_of_two(c, v, w),
-        small_area(room, at(c, 0) as usize, v.len() + w.len()),
+        small_area(room, commands(c), v.len() + w.len()),
     )
 }
 
