@@ -27,10 +27,10 @@ fn blank() -> [u8; 1100]
     [0; 1100]
 }
 
-fn table_area() -> [u8; 8192]
-    ensures { λ r. ⌜ 8192 ≡ length r ⌝ }
+fn table_area() -> [u8; 16384]
+    ensures { λ r. ⌜ 16384 ≡ length r ⌝ }
 {
-    [0; 8192]
+    [0; 16384]
 }
 
 // So many bytes, but no more than there are.
@@ -69,7 +69,7 @@ fn table(text: &[u8]) {
     let mut agree: usize = 0;
     let mut cases: usize = 0;
     let mut start: usize = 0;
-    while start < 8192 && at(text, start) != 0 {
+    while start < 16384 && at(text, start) != 0 {
         agree += put(&cases_table::read(text, start)) as usize;
         cases += 1;
         start = cases_table::end(text, start) + 1;

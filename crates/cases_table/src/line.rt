@@ -1,6 +1,7 @@
 // Reading a line of the table: a name, ":", a call and the plans, or a plan and places, with ";" between them. "@"
 // brings the bytes of the area, and after ";" the numbers of the second one, for pairs or slots; "#" brings another
-// catalogue than K. −3 is byte or place 131, and "0 x5" is five zeros.
+// catalogue than K. −3 is byte or place 131, and "0 x5" is five zeros. "~9" is the first eight records of the second
+// edition, of command 2, each of which leads to the next one.
 
 ghost use Prim.Native.Nat.{_<_, _≤_};
 use crate::AREA;
@@ -36,12 +37,36 @@ fn byte(mark: u8, value: usize) -> u8 {
     if mark == b'-' { 128 + low } else { low }
 }
 
-// A number behind a mark, taken into a part: one byte more, or after "x" so many in all.
+// One more record of the second edition, of command 2 and with this next index.
+fn record(q: Question, part: usize, next: usize) -> Question
+    requires { ⌜ part < 7 ⌝ }
+{
+    let low = pushed(pushed(q, part, 2), part, (next % 256) as u8);
+    pushed(low, part, (next / 256 % 256) as u8)
+}
+
+// The records before number n, each of which leads to the next one.
+fn chained(q: Question, part: usize, n: usize) -> Question
+    requires { ⌜ part < 7 ⌝ }
+{
+    let mut longer = q;
+    let mut j: usize = 1;
+    while j < n {
+        j += 1;
+        let next = record(longer, part, j);
+        longer = next;
+    }
+    longer
+}
+
+// A number behind a mark, taken into a part: one byte more, or after "x" so many in all, or after "~" a chain.
 fn taken(q: Question, part: usize, mark: u8, value: usize) -> Question
     requires { ⌜ part < 7 ⌝ }
 {
     if mark == b'x' {
         sized(q, part, value)
+    } else if mark == b'~' {
+        chained(q, part, value)
     } else {
         pushed(q, part, byte(mark, value))
     }
@@ -49,7 +74,7 @@ fn taken(q: Question, part: usize, mark: u8, value: usize) -> Question
 
 // The letter of the call that is named at a place: its first, but o for precedence, since p is for pairs.
 fn letter(text: &[u8], i: usize) -> u8
-    requires { ⌜ i < 8200 ⌝ }
+    requires { ⌜ i < 16392 ⌝ }
 {
     if at(text, i) == b'p' && at(text, i + 1) == b'r' {
         return b'o';
@@ -81,7 +106,7 @@ fn part_of(mark: u8, part: usize) -> usize
 // A letter of the name, or a number that begins behind a mark.
 fn kept(q: Question, part: usize, text: &[u8], i: usize) -> Question
     requires { ⌜ part < 7 ⌝ }
-    requires { ⌜ i < 8192 ⌝ }
+    requires { ⌜ i < 16384 ⌝ }
 {
     let mark = at(text, i);
     if part == NAME {
@@ -96,7 +121,7 @@ fn kept(q: Question, part: usize, text: &[u8], i: usize) -> Question
 // One more character of a line, in this part.
 fn step(q: Question, before: usize, part: usize, text: &[u8], i: usize) -> Question
     requires { ⌜ part < 7 ⌝ }
-    requires { ⌜ i < 8192 ⌝ }
+    requires { ⌜ i < 16384 ⌝ }
 {
     if part == before {
         kept(q, part, text, i)
@@ -110,7 +135,7 @@ fn line(q: Question, text: &[u8], start: usize) -> Question {
     let mut read = q;
     let mut part = NAME;
     let mut i = start;
-    while i < 8191 && at(text, i) != b'\n' {
+    while i < 16383 && at(text, i) != b'\n' {
         let before = part;
         part = part_of(at(text, i), before);
         let next = step(read, before, part, text, i);
@@ -134,11 +159,11 @@ pub fn read(text: &[u8], start: usize) -> Question {
 
 // The end of the line at a place.
 pub fn end(text: &[u8], start: usize) -> usize
-    requires { ⌜ start ≤ 8191 ⌝ }
-    ensures { λ r. ⌜ (start ≤ r) × (r ≤ 8191) ⌝ }
+    requires { ⌜ start ≤ 16383 ⌝ }
+    ensures { λ r. ⌜ (start ≤ r) × (r ≤ 16383) ⌝ }
 {
     let mut i = start;
-    while i < 8191 && at(text, i) != b'\n' {
+    while i < 16383 && at(text, i) != b'\n' {
         i += 1;
     }
     i

@@ -1,4 +1,4 @@
--- `table` is safe and ends: the measure is `8192 - start`; of the cases, at most `start`, no more agree than there are.
+-- `table` is safe and ends: the measure is `16384 - start`; of the cases, at most `start`, no more agree than there are.
 use native.Mathlib.Omega.{arith}
 use Prim.Native.Nat.{_-_, _≤_}
 use Rattle.cases_solver.proofs.Flag.{at-most-one}
@@ -7,10 +7,10 @@ use Rattle.cases.proofs.table.Statement.{statement}
 use Rattle.cases.proofs.table.Tie as tie
 
 abbrev Inv-loop : tie.InvT-loop
-Inv-loop text agree₀ cases₀ start₀ t5 agree cases start = (agree ≤ cases) × (cases ≤ start) × (start ≤ 8192)
+Inv-loop text agree₀ cases₀ start₀ t5 agree cases start = (agree ≤ cases) × (cases ≤ start) × (start ≤ 16384)
 
 abbrev μ-loop : tie.MeasureT-loop
-μ-loop text agree₀ cases₀ start₀ t5 agree cases start = 8192 - start
+μ-loop text agree₀ cases₀ start₀ t5 agree cases start = 16384 - start
 
 add-agree : tie.Need-add-agree Inv-loop μ-loop
 add-agree c = omega (arith, at-most-one (c .put .result))

@@ -1,4 +1,4 @@
--- `line` is safe and ends: the measure is `8191 - i`, the invariant `part < 7`.
+-- `line` is safe and ends: the measure is `16383 - i`, the invariant `part < 7`.
 use Prim.Native.Nat.{_-_, _<_}
 use borrow.Author.Needs.{needs}
 use Rattle.cases_table.proofs.line.line.Statement.{statement}
@@ -8,7 +8,7 @@ abbrev Inv-loop : tie.InvT-loop
 Inv-loop text start read₀ part₀ i₀ read part i = part < 7
 
 abbrev μ-loop : tie.MeasureT-loop
-μ-loop text start read₀ part₀ i₀ read part i = 8191 - i
+μ-loop text start read₀ part₀ i₀ read part i = 16383 - i
 
 pub line-spec : {M : Type 1} → statement M
 line-spec =
