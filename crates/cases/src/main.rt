@@ -1,6 +1,7 @@
 // The manual's cases, its edges and its slips (docs/MANUAL.md, "Cases"), read as a table from standard input, then
 // every small plan under K, put to the library and to a solver written independently of it. A line a case: what the
-// library says, then what the solver says. The crate cases_table says what a line of the table looks like.
+// library says, then what the solver says. A case agrees only if the library says the same of its catalogue written in
+// the second edition. The crate cases_table says what a line of the table looks like.
 
 mod ask;
 
@@ -13,11 +14,13 @@ use cases_solver::at;
 use cases_table::AREA;
 use cases_table::CATALOGUE;
 use cases_table::NAME;
+use cases_table::Question;
 use cases_table::SECOND;
 use cases_table::U;
 use cases_table::V;
 use cases_table::W;
 use cases_table::call;
+use cases_table::in_second;
 use cases_table::part;
 use cases_table::small;
 
@@ -50,8 +53,9 @@ fn numbers(n: usize) -> usize
     if n < 1100 { n } else { 1100 }
 }
 
-// Puts a question to library and solver, and prints both answers if it has a name; do they agree.
-fn put(q: &[u8]) -> bool {
+// Puts a question to the library, and under this catalogue to the solver. Prints both answers if it has a name; do they
+// agree.
+fn compare(q: &[u8], catalogue: &[u8]) -> bool {
     let c = part(q, CATALOGUE);
     let v = part(q, V);
     let w = part(q, W);
@@ -59,9 +63,19 @@ fn put(q: &[u8]) -> bool {
     let mut area = blank();
     let n = within(cases_table::size(q, AREA), &area);
     let m = numbers(cases_table::size(q, SECOND));
-    let theirs = solved(call(q), c, v, w, u, n, m);
+    let theirs = solved(call(q), catalogue, v, w, u, n, m);
     let ours = ask::asked(call(q), c, v, w, u, &mut area[..n], m);
     cases_report::answers(part(q, NAME), call(q), ours, theirs)
+}
+
+// The same under its own catalogue.
+fn put(q: &[u8]) -> bool {
+    compare(q, part(q, CATALOGUE))
+}
+
+// The same, and once more where the library is given the catalogue in the second edition.
+fn put_twice(q: Question) -> bool {
+    put(&q) && compare(&in_second(q), part(&q, CATALOGUE))
 }
 
 // Every line of the table.
@@ -70,7 +84,7 @@ fn table(text: &[u8]) {
     let mut cases: usize = 0;
     let mut start: usize = 0;
     while start < 16384 && at(text, start) != 0 {
-        agree += put(&cases_table::read(text, start)) as usize;
+        agree += put_twice(cases_table::read(text, start)) as usize;
         cases += 1;
         start = cases_table::end(text, start) + 1;
     }

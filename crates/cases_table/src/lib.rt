@@ -10,10 +10,12 @@ use cases_solver::at;
 
 mod every;
 mod line;
+mod second;
 
 pub use every::small;
 pub use line::end;
 pub use line::read;
+pub use second::in_second;
 
 pub type Question = [u8; 4961];
 
