@@ -3,7 +3,7 @@
 
 mod compare;
 
-ghost use Prim.Native.Nat.{_≤_};
+ghost use Prim.Native.Nat.{_<_, _≤_};
 use cases_random::Catalogue;
 use cases_random::Plan;
 use cases_random::area_size;
@@ -31,7 +31,7 @@ fn size(state: &mut u32) -> usize
 
 // Puts a catalogue and a plan of so many bytes to library and solver, with areas that are large enough: do they agree.
 fn whole(state: &mut u32, c: Catalogue, bytes: usize, plan: Plan, size: usize) -> bool
-    requires { ⌜ (bytes ≤ 536) × (size ≤ 1024) ⌝ }
+    requires { ⌜ (bytes < 3300) × (size ≤ 1024) ⌝ }
 {
     let first = room(state, size);
     let second = room(state, size);
@@ -40,13 +40,13 @@ fn whole(state: &mut u32, c: Catalogue, bytes: usize, plan: Plan, size: usize) -
 
 // The same, damaged.
 fn harmed(state: &mut u32, catalogue: Catalogue, bytes: usize, plan: Plan, size: usize) -> bool
-    requires { ⌜ (bytes ≤ 536) × (size ≤ 1024) ⌝ }
+    requires { ⌜ (bytes < 3300) × (size ≤ 1024) ⌝ }
 {
     let mut c = catalogue;
     let mut v = plan;
     harm(state, &mut c, bytes);
     harm(state, &mut v, size);
-    let n = catalogue_size(state, bytes);
+    let n = catalogue_size(state, &mut c, bytes);
     let m = plan_size(state, size);
     let first = area_size(state, m);
     let second = area_size(state, m);

@@ -1,12 +1,13 @@
-// Damage: bytes that may not stand where they are, a catalogue of another size, a plan that is too long and areas that
-// are too small, each now and then.
+// Damage: bytes that may not stand where they are, a catalogue of too many records or of another size, a plan that is
+// too long and areas that are too small, each now and then.
 
-ghost use Prim.Native.Nat.{_≤_};
+ghost use Prim.Native.Nat.{_<_, _≤_};
 use crate::random::draw;
+use cases_solver::at;
 
 // One time in four, puts another byte, more often a small one, among the first n.
 pub fn harm(state: &mut u32, bytes: &mut [u8], n: usize)
-    requires { ⌜ n ≤ 1100 ⌝ }
+    requires { ⌜ n < 3400 ⌝ }
 {
     let i = draw(state, n + 1);
     let most = draw(state, 256) + 1;
@@ -16,15 +17,34 @@ pub fn harm(state: &mut u32, bytes: &mut [u8], n: usize)
     }
 }
 
-// The size of a catalogue.
-pub fn catalogue_size(state: &mut u32, size: usize) -> usize
-    requires { ⌜ size ≤ 536 ⌝ }
-    ensures { λ r. ⌜ r ≤ 536 ⌝ }
+// One time in 16 gives a catalogue of the second edition some records too many, and the size that it then tells.
+fn overfill(state: &mut u32, c: &mut [u8], size: usize) -> usize
+    requires { ⌜ size < 3300 ⌝ }
+    ensures { λ r. ⌜ r < 3390 ⌝ }
 {
-    if draw(state, 16) == 0 {
-        return draw(state, 537);
+    let first = at(c, 0) as usize;
+    let records = 1025 + draw(state, 8);
+    if draw(state, 16) != 0 || first < 128 {
+        return size;
     }
-    size
+    if c.len() < 3 {
+        return size;
+    }
+    c[1] = (records % 256) as u8;
+    c[2] = (records / 256 % 256) as u8;
+    3 + 2 * (first % 128) + 3 * records
+}
+
+// The size of a catalogue; one time in 16 it is another, most often a smaller one.
+pub fn catalogue_size(state: &mut u32, c: &mut [u8], size: usize) -> usize
+    requires { ⌜ size < 3300 ⌝ }
+    ensures { λ r. ⌜ r < 3400 ⌝ }
+{
+    let told = overfill(state, c, size);
+    if draw(state, 16) == 0 {
+        return draw(state, told + 9);
+    }
+    told
 }
 
 // The size of a plan.

@@ -44,7 +44,7 @@ fn some_list_agrees(state: &mut u32, c: &[u8], plan: &[u8], wrong: bool) -> bool
 
 // Puts a catalogue and a plan of so many bytes to library and solver, with areas that are large enough: do they agree.
 fn whole(state: &mut u32, c: Catalogue, bytes: usize, plan: Plan, size: usize) -> bool
-    requires { ⌜ (bytes ≤ 536) × (size ≤ 1024) ⌝ }
+    requires { ⌜ (bytes < 3300) × (size ≤ 1024) ⌝ }
 {
     let m = short(&c[0..bytes], &plan[0..size]);
     let first = room(state, m);
@@ -56,13 +56,13 @@ fn whole(state: &mut u32, c: Catalogue, bytes: usize, plan: Plan, size: usize) -
 
 // The same, damaged.
 fn harmed(state: &mut u32, catalogue: Catalogue, bytes: usize, plan: Plan, size: usize) -> bool
-    requires { ⌜ (bytes ≤ 536) × (size ≤ 1024) ⌝ }
+    requires { ⌜ (bytes < 3300) × (size ≤ 1024) ⌝ }
 {
     let mut c = catalogue;
     let mut v = plan;
     harm(state, &mut c, bytes);
     harm(state, &mut v, size);
-    let n = catalogue_size(state, bytes);
+    let n = catalogue_size(state, &mut c, bytes);
     let short = short(&c[0..n], &v[0..size]);
     let m = plan_size(state, short);
     let first = area_size(state, m);
