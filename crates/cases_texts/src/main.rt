@@ -26,25 +26,37 @@ fn area() -> Area
     [KEPT; AREA]
 }
 
-// Room for the catalogue of 255 commands without conflicts; that of fewer is its start.
-fn catalogue(commands: usize) -> [u8; 257]
-    requires { ⌜ commands ≤ 255 ⌝ }
+// Room for the catalogue without conflicts that has this first byte.
+fn catalogue(first: usize) -> [u8; 257]
+    requires { ⌜ first ≤ 255 ⌝ }
     ensures { λ r. ⌜ 257 ≡ length r ⌝ }
 {
     let mut c = [0u8; 257];
-    c[0] = commands as u8;
+    c[0] = first as u8;
     c
 }
 
-// Puts a text to the library, under the catalogue of so many commands, in an area of so many bytes.
-fn put(commands: usize, room: usize, text: &[u8])
-    requires { ⌜ (commands ≤ 255) × (room ≤ 1100) ⌝ }
+// The number of its bytes; from 128 on, the first byte is that of the second edition.
+fn size(first: usize) -> usize
+    requires { ⌜ first ≤ 255 ⌝ }
+    ensures { λ r. ⌜ r ≤ 257 ⌝ }
 {
-    let c = catalogue(commands);
+    if first < 128 {
+        return 2 + first;
+    }
+    3 + 2 * (first - 128)
+}
+
+// Puts a text to the library, under the catalogue with this first byte, in an area of so many bytes.
+fn put(first: usize, room: usize, text: &[u8])
+    requires { ⌜ (first ≤ 255) × (room ≤ 1100) ⌝ }
+{
+    let c = catalogue(first);
+    let n = size(first);
     let mut lent = area();
-    let written = busplan::write_out(&c[0..2 + commands], text, &mut lent[0..room]);
-    let fault = busplan::text_fault(&c[0..2 + commands], text);
-    report::row(commands, room, text);
+    let written = busplan::write_out(&c[0..n], text, &mut lent[0..room]);
+    let fault = busplan::text_fault(&c[0..n], text);
+    report::row(first, room, text);
     report::answers(written, fault, &lent);
 }
 
@@ -57,7 +69,7 @@ fn put_row(table: &[u8], start: usize, end: usize) -> bool
         return false;
     }
     let from = read.from;
-    put(read.commands, read.room, &table[from..end]);
+    put(read.first, read.room, &table[from..end]);
     true
 }
 

@@ -51,8 +51,8 @@ fn quoted(bytes: &[u8]) {
 }
 
 // The row itself.
-pub fn row(commands: usize, room: usize, bytes: &[u8]) {
-    number(commands);
+pub fn row(first: usize, room: usize, bytes: &[u8]) {
+    number(first);
     byte(b' ');
     number(room);
     byte(b' ');

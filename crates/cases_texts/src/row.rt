@@ -1,6 +1,6 @@
-// A row of the table: the number of commands, a blank, the size of the area in bytes, a blank, and the text, which is
-// everything up to the newline that ends the row. In a text a backslash stands for the byte 0, which would make the
-// table no file of text.
+// A row of the table: the first byte of the catalogue, which tells its edition and N, a blank, the size of the area in
+// bytes, a blank, and the text, which is everything up to the newline that ends the row. In a text a backslash stands
+// for the byte 0, which would make the table no file of text.
 
 ghost use Prim.Native.Nat.{_≤_};
 ghost use mathlib.Core.Path.{_≡_};
@@ -11,7 +11,7 @@ use cases_solver::at;
 // What was read: the two numbers, and the place where the text begins; or no row.
 pub struct Row {
     pub is_row: bool,
-    pub commands: usize,
+    pub first: usize,
     pub room: usize,
     pub from: usize,
 }
@@ -86,22 +86,22 @@ fn is_number(table: &[u8], start: usize, behind: usize) -> bool {
 }
 
 fn no_row(end: usize) -> Row
-    ensures { λ r. ⌜ (r .commands ≤ 255) × (r .room ≤ 1100) × (r .from ≤ end) ⌝ }
+    ensures { λ r. ⌜ (r .first ≤ 255) × (r .room ≤ 1100) × (r .from ≤ end) ⌝ }
 {
     Row {
         is_row: false,
-        commands: 0,
+        first: 0,
         room: 0,
         from: end,
     }
 }
 
 // The row of two numbers whose text begins at a place, if they are not too large.
-fn row_of(commands: usize, room: usize, from: usize, end: usize) -> Row
+fn row_of(first: usize, room: usize, from: usize, end: usize) -> Row
     requires { ⌜ from ≤ end ⌝ }
-    ensures { λ r. ⌜ (r .commands ≤ 255) × (r .room ≤ 1100) × (r .from ≤ end) ⌝ }
+    ensures { λ r. ⌜ (r .first ≤ 255) × (r .room ≤ 1100) × (r .from ≤ end) ⌝ }
 {
-    if 255 < commands {
+    if 255 < first {
         return no_row(end);
     }
     if AREA < room {
@@ -109,7 +109,7 @@ fn row_of(commands: usize, room: usize, from: usize, end: usize) -> Row
     }
     Row {
         is_row: true,
-        commands,
+        first,
         room,
         from,
     }
@@ -118,7 +118,7 @@ fn row_of(commands: usize, room: usize, from: usize, end: usize) -> Row
 // The row between two places, where a newline must stand behind it.
 pub fn read(table: &[u8], start: usize, end: usize) -> Row
     requires { ⌜ (start ≤ end) × (end ≤ 8192) ⌝ }
-    ensures { λ r. ⌜ (r .commands ≤ 255) × (r .room ≤ 1100) × (r .from ≤ end) ⌝ }
+    ensures { λ r. ⌜ (r .first ≤ 255) × (r .room ≤ 1100) × (r .from ≤ end) ⌝ }
 {
     if at(table, end) != b'\n' {
         return no_row(end);
