@@ -9,7 +9,7 @@ ghost use lib.ListN.{length};
 use spec::Loops;
 use spec::Refusal;
 
-// Room for the largest catalogue, and for some that are too large.
+// Room for the largest catalogue of the first edition, for some that are too large, and for some of the second edition.
 fn catalogue_area() -> [u8; 1024]
     ensures { λ r. ⌜ 1024 ≡ length r ⌝ }
 {
