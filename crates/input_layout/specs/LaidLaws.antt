@@ -1,5 +1,5 @@
--- The layout that the code keeps is that of the catalogue's edition, and where the size is right the places that it gives
--- lie within the catalogue.
+-- The layout that the code keeps is that of the catalogue's edition, and where the size is right the places that it
+-- gives lie within the catalogue.
 use Prim.Native.Nat.{ℕ, _+_, _-_, _≤_, _<_}
 use native.Mathlib.Omega.{arith}
 use mathlib.Core.Path.{_≡_, refl, sym, _∙_, ap}

@@ -1,6 +1,7 @@
 -- How the bytes of a catalogue are laid out (docs/MANUAL.md, "Catalogue"), in either edition: N, R, N heads, and R
--- records of a command and the index of the next record. In the first edition each takes one byte. In the second edition
--- byte 0 is 128 + N, and R, a head and a next index take two bytes each, low byte first. A byte past the end counts as 0.
+-- records of a command and the index of the next record. In the first edition each takes one byte. In the second
+-- edition byte 0 is 128 + N, and R, a head and a next index take two bytes each, low byte first. A byte past the end
+-- counts as 0.
 use Prim.Native.Nat.{ℕ, _+_, _*_, _-_}
 use mathlib.Core.Bool.{Bool, true, false}
 use mathlib.Core.List.{List}

@@ -101,8 +101,8 @@ module _ {c d : List ℕ} (s : SameRecords c d) where
   chain-alike a = ap₂ (follow c) (s .records) (s .heads a) ∙ follow-alike (records d) (head d a)
 
   -- a line that searches either catalogue by the same rule
-  found-alike : (k : ℕ) (place : List ℕ → ℕ → ℕ) (bad : List ℕ → ℕ → Bool) (most : List ℕ → ℕ) → most c ≡ most d
-      → ((i : ℕ) → bad c (suc i) ≡ bad d (suc i))
+  found-alike : (k : ℕ) (place : List ℕ → ℕ → ℕ) (bad : List ℕ → ℕ → Bool) (most : List ℕ → ℕ)
+      → most c ≡ most d → ((i : ℕ) → bad c (suc i) ≡ bad d (suc i))
       → number (lineAt k 0 (place c) (firstOf (bad c) (most c) 1))
       ≡ number (lineAt k 0 (place d) (firstOf (bad d) (most d) 1))
   found-alike k place bad most e h =

@@ -1,5 +1,5 @@
--- Catalogues that say the same, of whichever editions: under either the same plans are equal, and every call is promised
--- the same answer and areas.
+-- Catalogues that say the same, of whichever editions: under either the same plans are equal, and every call is
+-- promised the same answer and areas.
 use Prim.Native.Nat.{ℕ, suc, _*_, _+_, _≤_, max}
 use mathlib.Core.Path.{_≡_, refl, sym, _∙_, ap, ap₂, subst, fun-ext}
 use mathlib.Core.Bool.{Bool, true, false, not, _&&_}
@@ -137,7 +137,8 @@ module _ {c d : List ℕ} (s : SayTheSame c d) where
   above-same : (k : ℕ) (t : List Slotted) → above c k t ≡ above d k t
   unfolding above
   above-same k [] = refl
-  above-same k (x ∷ t) = ap₂ (λ b n. above-step b (x .slot) n) (conflict-same c d (s .pairs) k (x .command)) (above-same k t)
+  above-same k (x ∷ t) =
+      ap₂ (λ b n. above-step b (x .slot) n) (conflict-same c d (s .pairs) k (x .command)) (above-same k t)
 
   after-same : (t : List Slotted) (z : List ℕ) → slotsAfter c t z ≡ slotsAfter d t z
   unfolding slotsAfter

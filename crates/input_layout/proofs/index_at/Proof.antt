@@ -17,7 +17,8 @@ returns : tie.Need-returns
 returns c =
     let k = c .before .before in
     let s = k .before in
-    (ap (λ m. m .indexAt (s .args .i)) (laid-one (s .pre .0) (c .if1 .taken)), omega (arith, k .shared-slice-known .given (s .args .i)))
+    let i = s .args .i in
+    (ap (λ m. m .indexAt i) (laid-one (s .pre .0) (c .if1 .taken)), omega (arith, k .shared-slice-known .given i))
 
 shared-slice-read-result : tie.Need-shared-slice-read-result
 shared-slice-read-result c =
