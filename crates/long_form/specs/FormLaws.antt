@@ -11,9 +11,9 @@ use Rattle.spec.specs.Letters.{letters, alphabet, normalForm}
 use Rattle.long_reduction.specs.Reducing.{Reducing}
 use Rattle.long_read.specs.Reading.{Readable}
 
-pub form-readable : {c : List ℕ} {conflicts : List (List ℕ)} {word under link tops blanks area : List ℕ}
-    → length (letters word) ≤ length area → Reducing c conflicts word under link tops blanks 0
-    → Readable c conflicts word under link tops blanks (reduce (alphabet c) (letters word)) area
+pub form-readable : {c : List ℕ} {conflicts : List (List ℕ)} {word under link tops marks heights area : List ℕ}
+    → length (letters word) ≤ length area → Reducing c conflicts word under link tops marks heights 0
+    → Readable c conflicts word under link tops marks heights (reduce (alphabet c) (letters word)) area
 form-readable {c} {word = word} l r = record {
   table = r .given .table;
   stacks = r .stacks;

@@ -28,9 +28,27 @@ fn normal_form(
         → StartsWith (normalForm c (now (word .entry))) (now (area .entry)) (now (area .exit)) r) ⌝ }
 {
     let mut tops = [0; 24];
-    let mut blanks = [1; 24];
-    reduce(word, conflicts, under, link, &mut tops, &mut blanks);
-    read_off(word, conflicts, under, link, &mut tops, &mut blanks, area)
+    let mut marks = [0; 24];
+    let mut heights = [1; 24];
+    reduce(
+        word,
+        conflicts,
+        under,
+        link,
+        &mut tops,
+        &mut marks,
+        &mut heights,
+    );
+    read_off(
+        word,
+        conflicts,
+        under,
+        link,
+        &mut tops,
+        &mut marks,
+        &mut heights,
+        area,
+    )
 }
 
 // Links for a word of at most 1,024 letters.

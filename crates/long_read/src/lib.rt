@@ -6,15 +6,16 @@ ghost use Prim.Native.Nat.{ℕ};
 ghost use mathlib.Core.List.{List};
 ghost use Rattle.array_counts.specs.First.{FirstWith};
 ghost use Rattle.array_row.specs.Area.{ReadOff};
-ghost use Rattle.long_read.specs.Reading.{LetterOnTop, Readable};
+ghost use Rattle.long_stacks.specs.Linked.{LetterOnTop};
+ghost use Rattle.long_read.specs.Reading.{Readable};
 
 // The index of the first stack with a letter on top, or 24 where there is none.
-fn ready(blanks: &[u16; 24]) -> usize
-    ensures { λ r. ⌜ FirstWith (LetterOnTop (now (blanks .entry))) r ⌝ }
+fn ready(marks: &[u16; 24], heights: &[u16; 24]) -> usize
+    ensures { λ r. ⌜ FirstWith (LetterOnTop (now (marks .entry)) (now (heights .entry))) r ⌝ }
 {
     let mut i = 0;
     while i < 24 {
-        if blanks[i] == 0 {
+        if marks[i] == heights[i] {
             return i;
         }
         i += 1;
@@ -29,24 +30,25 @@ pub fn read_off(
     under: &[u16],
     link: &[u16],
     tops: &mut [u16; 24],
-    blanks: &mut [u16; 24],
+    marks: &mut [u16; 24],
+    heights: &mut [u16; 24],
     area: &mut [u8],
 ) -> usize
     requires { ⌜ ((c : List ℕ) × (x : List ℕ)
-        × Readable c (now conflicts) (now word) (now under) (now link) (now tops) (now blanks) x (now area)) ⌝ }
+        × Readable c (now conflicts) (now word) (now under) (now link)
+        (now tops) (now marks) (now heights) x (now area)) ⌝ }
     ensures { λ r. ⌜ ((c x : List ℕ)
         → Readable c (now (conflicts .entry)) (now (word .entry)) (now (under .entry)) (now (link .entry))
-        (now (tops .entry)) (now (blanks .entry)) x (now (area .entry))
+        (now (tops .entry)) (now (marks .entry)) (now (heights .entry)) x (now (area .entry))
         → ReadOff c x (now (area .entry)) (now (area .exit)) r) ⌝ }
 {
     let mut l = 0;
-    let mut k = ready(blanks);
+    let mut k = ready(marks, heights);
     while k < 24 {
         area[l] = word[tops[k] as usize - 1];
         l += 1;
-        let line = conflicts[k];
-        cut(under, link, tops, blanks, &line, k);
-        k = ready(blanks);
+        cut(under, link, tops, marks, heights, &conflicts[k], k);
+        k = ready(marks, heights);
     }
     l
 }

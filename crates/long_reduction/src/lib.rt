@@ -16,30 +16,33 @@ fn step(
     under: &mut [u16],
     link: &mut [u16],
     tops: &mut [u16; 24],
-    blanks: &mut [u16; 24],
+    marks: &mut [u16; 24],
+    heights: &mut [u16; 24],
     p: usize,
 )
     requires { ⌜ ((c : List ℕ)
-        × Reducing c (now conflicts) (now word) (now under) (now link) (now tops) (now blanks) (p + 1)) ⌝ }
+        × Reducing c (now conflicts) (now word)
+        (now under) (now link) (now tops) (now marks) (now heights) (p + 1)) ⌝ }
     ensures { λ r. ⌜ ((c : List ℕ)
         → Reducing c (now (conflicts .entry)) (now (word .entry))
-        (now (under .entry)) (now (link .entry)) (now (tops .entry)) (now (blanks .entry)) (p + 1)
+        (now (under .entry)) (now (link .entry)) (now (tops .entry)) (now (marks .entry))
+        (now (heights .entry)) (p + 1)
         → Reducing c (now (conflicts .entry)) (now (word .entry))
-        (now (under .exit)) (now (link .exit)) (now (tops .exit)) (now (blanks .exit)) p) ⌝ }
+        (now (under .exit)) (now (link .exit)) (now (tops .exit)) (now (marks .exit))
+        (now (heights .exit)) p) ⌝ }
 {
     let a = word[p];
     if a == 0 {
         return;
     }
     let k = (a % 128) as usize - 1;
-    let line = conflicts[k];
-    if blanks[k] == 0 {
+    if marks[k] == heights[k] {
         if word[tops[k] as usize - 1] == undo(a) {
-            cut(under, link, tops, blanks, &line, k);
+            cut(under, link, tops, marks, heights, &conflicts[k], k);
             return;
         }
     }
-    put(under, link, tops, blanks, &line, p, k);
+    put(under, link, tops, marks, heights, &conflicts[k], p, k);
 }
 
 // Reduces the word: all its letters, the last first, on stacks that are empty.
@@ -49,20 +52,23 @@ pub fn reduce(
     under: &mut [u16],
     link: &mut [u16],
     tops: &mut [u16; 24],
-    blanks: &mut [u16; 24],
+    marks: &mut [u16; 24],
+    heights: &mut [u16; 24],
 )
     requires { ⌜ ((c : List ℕ)
-        × Reducing c (now conflicts) (now word) (now under) (now link) (now tops) (now blanks) (length (now word))) ⌝ }
+        × Reducing c (now conflicts) (now word)
+        (now under) (now link) (now tops) (now marks) (now heights) (length (now word))) ⌝ }
     ensures { λ r. ⌜ ((c : List ℕ)
         → Reducing c (now (conflicts .entry)) (now (word .entry))
-        (now (under .entry)) (now (link .entry)) (now (tops .entry)) (now (blanks .entry))
-        (length (now (word .entry)))
+        (now (under .entry)) (now (link .entry)) (now (tops .entry)) (now (marks .entry))
+        (now (heights .entry)) (length (now (word .entry)))
         → Reducing c (now (conflicts .entry)) (now (word .entry))
-        (now (under .exit)) (now (link .exit)) (now (tops .exit)) (now (blanks .exit)) 0) ⌝ }
+        (now (under .exit)) (now (link .exit)) (now (tops .exit)) (now (marks .exit))
+        (now (heights .exit)) 0) ⌝ }
 {
     let mut i = word.len();
     while 0 < i {
         i -= 1;
-        step(word, conflicts, under, link, tops, blanks, i);
+        step(word, conflicts, under, link, tops, marks, heights, i);
     }
 }

@@ -1,6 +1,5 @@
-pub mod Runs
-pub mod RunsLaws
+pub mod Linked
+pub mod LinkedLaws
 pub mod Moves
-pub mod MovesLaws
 pub mod MeetsLaws
 pub mod StacksLaws

@@ -1,76 +1,69 @@
 -- What a letter does to one stack: when it is put on the stacks, and when it is cut off.
-use Prim.Native.Nat.{ℕ, suc, _+_, _-_, _<_, _≤_}
+use Prim.Native.Nat.{ℕ, _+_, _<_, _≤_}
 use native.Mathlib.Omega.{arith}
 use native.Mathlib.Numerals.{add-one}
 use native.Mathlib.Nat.{le-refl}
-use mathlib.Core.Path.{_≡_, refl, _∙_, ap}
+use mathlib.Core.Path.{_≡_, refl}
 use mathlib.Core.List.{List, _∷_, _++_, tail-eq-of-cons-eq}
-use lib.ListN.{length, getD}
+use lib.ListN.{length, getD, length-append}
 use lib.Seq.{getD-set-same, getD-set-other}
-use Rattle.array_counts.specs.MeetsLaws.{Meets, aside, own, other}
-use Rattle.long_stacks.specs.Runs.{Runs, bead}
-use Rattle.long_stacks.specs.RunsLaws.{Topped, runs-blank, runs-unblank, runs-topped, runs-earlier, runs-write}
-use Rattle.long_stacks.specs.Moves.{Put, Cut}
+use Rattle.array_counts.specs.MeetsLaws.{Meets, aside, own, other, meets-length}
+use Rattle.long_stacks.specs.Linked.{Linked, blank, letter, height}
+use Rattle.long_stacks.specs.LinkedLaws.{linked-unblank, linked-letter, linked-topped}
+use Rattle.long_stacks.specs.LinkedLaws.{linked-earlier, linked-write}
+use Rattle.long_stacks.specs.Moves.{Written, Put, Cut}
 
-module _ {word under link tops blanks line under′ link′ tops′ blanks′ : List ℕ} {p k : ℕ}
-    (u : Put under link tops blanks line p k under′ link′ tops′ blanks′) (within : p < length word)
-    (unders : length word ≤ length under) (links : length word ≤ length link) (many : k < length tops) where
+-- a stack with a letter's beads on it is higher by their number
+pub meets-height : {k b j n : ℕ} {m : List ℕ} (bs : List ℕ) → Meets k b j n m → height (m ++ bs) ≡ height bs + n
+meets-height {m = m} bs t = omega (arith, length-append m bs, meets-length t)
+
+-- the uppermost letter of one stack written over
+module _ {word under link tops marks tops′ marks′ : List ℕ} {i k t m : ℕ}
+    (w : Written tops marks k t m tops′ marks′) where
+  written-other : {j : ℕ} {bs : List ℕ} → ¬ (j ≡ k) → Linked word under link i (getD tops j 0) (getD marks j 0) bs
+      → Linked word under link i (getD tops′ j 0) (getD marks′ j 0) bs
+  written-other {j} o r =
+      rw (w .top, w .mark, getD-set-other tops k j t 0 o, getD-set-other marks k j m 0 o) r
+
+  written-own : {bs : List ℕ} → k < length tops → k < length marks → Linked word under link i t m bs
+      → Linked word under link i (getD tops′ k 0) (getD marks′ k 0) bs
+  written-own g h r = rw (w .top, w .mark, getD-set-same tops k t 0 g, getD-set-same marks k m 0 h) r
+
+module _ {word under link tops marks heights line under′ link′ tops′ marks′ heights′ : List ℕ} {p k : ℕ}
+    (u : Put under link tops marks heights line p k under′ link′ tops′ marks′ heights′) (within : p < length word)
+    (unders : length word ≤ length under) (links : length word ≤ length link)
+    (topped : k < length tops) (marked : k < length marks) where
   -- a stack of later places is as it was
-  put-kept : {t n : ℕ} {bs : List ℕ} → Runs word under link (p + 1) t n bs → Runs word under′ link′ p t n bs
-  put-kept r = rw (u .unders, u .links) (runs-earlier p (omega arith) (runs-write p _ _ (omega arith) r))
-
-  -- a stack of another command
-  put-other : {j n : ℕ} {bs : List ℕ} → j < 24 → ¬ (j ≡ k) → getD blanks j 0 + getD line j 0 ≡ n
-      → Runs word under link (p + 1) (getD tops j 0) n bs
-      → Runs word under′ link′ p (getD tops′ j 0) (getD blanks′ j 0) bs
-  put-other {j} h o e r =
-      let t : getD tops′ j 0 ≡ getD tops j 0 = rw (u .top) (getD-set-other tops k j _ 0 o) in
-      rw (t, u .zeros .rest j h o, e) (put-kept r)
+  put-kept : {t m : ℕ} {bs : List ℕ} → Linked word under link (p + 1) t m bs → Linked word under′ link′ p t m bs
+  put-kept r = rw (u .unders, u .links) (linked-earlier p (omega arith) (linked-write p _ _ (omega arith) r))
 
   -- the stack of its own command
-  put-own : {bs : List ℕ} → ¬ (getD word p 0 ≡ 0) → Runs word under link (p + 1) (getD tops k 0) (getD blanks k 0) bs
-      → Runs word under′ link′ p (getD tops′ k 0) (getD blanks′ k 0) (getD word p 0 ∷ bs)
-  put-own {bs} o r =
-      let t : getD tops′ k 0 ≡ suc p = rw (u .top) (getD-set-same tops k _ 0 many ∙ add-one p) in
+  put-own : {bs : List ℕ} → ¬ (getD word p 0 ≡ 0) → getD heights′ k 0 ≡ height (getD word p 0 ∷ bs)
+      → Linked word under link (p + 1) (getD tops k 0) (getD marks k 0) bs
+      → Linked word under′ link′ p (getD tops′ k 0) (getD marks′ k 0) (getD word p 0 ∷ bs)
+  put-own {bs} o e r =
       let l : getD link′ p 0 ≡ getD tops k 0 = rw (u .links) (getD-set-same link p _ 0 (omega arith)) in
-      let n : getD under′ p 0 ≡ getD blanks k 0 = rw (u .unders) (getD-set-same under p _ 0 (omega arith)) in
-      let b : Runs word under′ link′ p (getD link′ p 0) (getD under′ p 0) bs = rw (l, n) (put-kept r) in
-      rw (t, u .zeros .own) (bead (le-refl p) within o b)
+      let m : getD under′ p 0 ≡ getD marks k 0 = rw (u .unders) (getD-set-same under p _ 0 (omega arith)) in
+      let b : Linked word under′ link′ p (getD link′ p 0) (getD under′ p 0) bs = rw (l, m) (put-kept r) in
+      written-own (u .written) topped marked (rw (add-one p, e) (letter (le-refl p) within o b))
 
   -- one stack, when the letter at place p is put on
-  pub meets-put : {j n : ℕ} {m bs : List ℕ} → Meets k (getD word p 0) j n m → getD line j 0 ≡ n → j < 24
-      → ¬ (getD word p 0 ≡ 0) → Runs word under link (p + 1) (getD tops j 0) (getD blanks j 0) bs
-      → Runs word under′ link′ p (getD tops′ j 0) (getD blanks′ j 0) (m ++ bs)
-  meets-put (aside d) e h o r = put-other h d (omega arith) r
-  meets-put own e h o r = put-own o r
-  meets-put (other d) e h o r = put-other h d (omega arith) (runs-blank r)
+  pub meets-put : {j n : ℕ} {m bs : List ℕ} → Meets k (getD word p 0) j n m → ¬ (getD word p 0 ≡ 0)
+      → getD heights′ j 0 ≡ height (m ++ bs) → Linked word under link (p + 1) (getD tops j 0) (getD marks j 0) bs
+      → Linked word under′ link′ p (getD tops′ j 0) (getD marks′ j 0) (m ++ bs)
+  meets-put (aside d) o e r = written-other (u .written) d (put-kept r)
+  meets-put own o e r = put-own o e r
+  meets-put (other d) o e r = blank (written-other (u .written) d (put-kept r))
 
-module _ {word under link tops blanks line tops′ blanks′ : List ℕ} {i k : ℕ}
-    (u : Cut under link tops blanks line k tops′ blanks′) (many : k < length tops) where
-  cut-other : {j n : ℕ} {bs : List ℕ} → j < 24 → ¬ (j ≡ k) → getD blanks j 0 - getD line j 0 ≡ n
-      → Runs word under link i (getD tops j 0) n bs → Runs word under link i (getD tops′ j 0) (getD blanks′ j 0) bs
-  cut-other {j} h o e r =
-      let t : getD tops′ j 0 ≡ getD tops j 0 = rw (u .top) (getD-set-other tops k j _ 0 o) in
-      rw (t, u .zeros .rest j h o, e) r
-
-  cut-own : {b : ℕ} {bs : List ℕ} → Topped word under link i (getD tops k 0 - 1) (b ∷ bs)
-      → Runs word under link i (getD tops′ k 0) (getD blanks′ k 0) bs
-  cut-own {b} {bs} z =
-      let t : getD tops′ k 0 ≡ getD link (getD tops k 0 - 1) 0 = rw (u .top) (getD-set-same tops k _ 0 many) in
-      rw (t, u .zeros .own, tail-eq-of-cons-eq (z .beads)) (z .below)
-
+module _ {word under link tops marks heights line tops′ marks′ heights′ : List ℕ} {i k : ℕ}
+    (u : Cut under link tops marks heights line k tops′ marks′ heights′)
+    (topped : k < length tops) (marked : k < length marks) where
   -- one stack, when the letter b on top of the stack of command k + 1 is cut off
-  pub meets-cut : {b j n : ℕ} {m bs : List ℕ} → Meets k b j n m → getD line j 0 ≡ n → j < 24 → getD blanks k 0 ≡ 0
-      → Runs word under link i (getD tops j 0) (getD blanks j 0) (m ++ bs)
-      → Runs word under link i (getD tops′ j 0) (getD blanks′ j 0) bs
-  meets-cut (aside d) e h o r = cut-other h d (omega arith) r
-  meets-cut own e h o r = cut-own (runs-topped o r .1)
-  meets-cut {j = j} (other d) e h o r =
-      cut-other h d (ap (λ (n : ℕ). getD blanks j 0 - n) e) (runs-unblank refl r .1)
-
--- a stack of another command has the blanks that are taken off it
-pub meets-low : {word under link : List ℕ} {i k b j n t q : ℕ} {m : List ℕ} (bs : List ℕ) → Meets k b j n m
-    → ¬ (j ≡ k) → Runs word under link i t q (m ++ bs) → n ≤ q
-meets-low bs (aside d) o r = omega arith
-meets-low bs own o r = absurd (o refl)
-meets-low bs (other d) o r = runs-unblank refl r .0
+  pub meets-cut : {b j n : ℕ} {m bs : List ℕ} → Meets k b j n m → ¬ (b ≡ 0)
+      → Linked word under link i (getD tops j 0) (getD marks j 0) (m ++ bs)
+      → Linked word under link i (getD tops′ j 0) (getD marks′ j 0) bs
+  meets-cut (aside d) o r = written-other (u .written) d r
+  meets-cut own o r =
+      let z = linked-topped (linked-letter refl o r) r .1 in
+      written-own (u .written) topped marked (rw (tail-eq-of-cons-eq (z .beads)) (z .below))
+  meets-cut (other d) o r = written-other (u .written) d (linked-unblank refl r)

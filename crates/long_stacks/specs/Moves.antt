@@ -3,42 +3,40 @@ use Prim.Native.Nat.{ℕ, _+_, _-_, _<_, _≤_}
 use mathlib.Core.Path.{_≡_}
 use mathlib.Core.List.{List}
 use lib.ListN.{length, getD, set}
-use Rattle.array_counts.specs.Heights.{Both}
+use Rattle.array_counts.specs.Heights.{Both, Changed}
 
--- at index k the number v, and at each other index f of the first number and of the line's
-pub record ChangedBut (f : ℕ → ℕ → ℕ) (line first : List ℕ) (k v : ℕ) (last : List ℕ) : Type 0 where
-  pub count : length last ≡ 24
-  pub own : getD last k 0 ≡ v
-  pub rest : (j : ℕ) → j < 24 → ¬ (j ≡ k) → getD last j 0 ≡ f (getD first j 0) (getD line j 0)
+-- the uppermost letter of the stack of command k + 1 is at place t - 1 and has mark m, or there is none
+pub record Written (tops marks : List ℕ) (k t m : ℕ) (tops′ marks′ : List ℕ) : Type 0 where
+  pub top : tops′ ≡ set tops k t
+  pub mark : marks′ ≡ set marks k m
 
 -- place p is free for a letter of command k + 1
-pub record Puttable (under link tops blanks line : List ℕ) (p k : ℕ) : Type 0 where
+pub record Puttable (under link heights line : List ℕ) (p k : ℕ) : Type 0 where
   pub within : k < 24
   pub low : p < 50176
   pub unders : p < length under
   pub links : p < length link
-  pub many : length tops ≡ 24
-  pub sums : Both (λ b n. b + n < 65536) blanks line
+  pub sums : Both (λ h n. h + n < 65536) heights line
 
--- the letter at place p is now on top of the stack of command k + 1, and a blank more lies on each other stack that
--- the line names
-pub record Put (under link tops blanks line : List ℕ) (p k : ℕ) (under′ link′ tops′ blanks′ : List ℕ) : Type 0 where
-  pub unders : under′ ≡ set under p (getD blanks k 0)
+-- each stack is higher by the line's number, and the letter at place p is on top of the stack of command k + 1
+pub record Put (under link tops marks heights line : List ℕ) (p k : ℕ)
+    (under′ link′ tops′ marks′ heights′ : List ℕ) : Type 0 where
+  pub unders : under′ ≡ set under p (getD marks k 0)
   pub links : link′ ≡ set link p (getD tops k 0)
-  pub top : tops′ ≡ set tops k (p + 1)
-  pub zeros : ChangedBut _+_ line blanks k 0 blanks′
+  pub written : Written tops marks k (p + 1) (getD heights′ k 0) tops′ marks′
+  pub lifted : Changed _+_ line heights heights′
 
--- the stack of command k + 1 has a letter on top, and a blank lies on each other stack that the line names
-pub record Cuttable (under link tops blanks line : List ℕ) (k : ℕ) : Type 0 where
+-- the stack of command k + 1 has a letter, and each stack is at least as high as the line's number
+pub record Cuttable (under link tops heights line : List ℕ) (k : ℕ) : Type 0 where
   pub within : k < 24
-  pub many : length tops ≡ 24
   pub some : 1 ≤ getD tops k 0
   pub low : getD tops k 0 ≤ 50176
   pub unders : getD tops k 0 ≤ length under
   pub links : getD tops k 0 ≤ length link
-  pub differences : Both (λ b n. n ≤ b) (set blanks k 1) line
+  pub differences : Both (λ h n. n ≤ h) heights line
 
--- that letter is off, and so are these blanks
-pub record Cut (under link tops blanks line : List ℕ) (k : ℕ) (tops′ blanks′ : List ℕ) : Type 0 where
-  pub top : tops′ ≡ set tops k (getD link (getD tops k 0 - 1) 0)
-  pub zeros : ChangedBut _-_ line blanks k (getD under (getD tops k 0 - 1) 0) blanks′
+-- each stack is lower by the line's number, and the uppermost letter of the stack of command k + 1 is off
+pub record Cut (under link tops marks heights line : List ℕ) (k : ℕ) (tops′ marks′ heights′ : List ℕ)
+    : Type 0 where
+  pub written : let q = getD tops k 0 - 1 in Written tops marks k (getD link q 0) (getD under q 0) tops′ marks′
+  pub lowered : Changed _-_ line heights heights′

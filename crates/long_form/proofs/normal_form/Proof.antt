@@ -6,11 +6,11 @@ use Rattle.long_form.proofs.normal_form.Statement.{statement}
 use Rattle.long_form.proofs.normal_form.Tie as tie
 
 -- the places on the way: where the word is to be reduced, and where it is
-abbrev start : tie.After-blanks → tie.Start
-start c = c .before .before .before .before .before .before .before .before
+abbrev start : tie.After-heights → tie.Start
+start c = c .before .before .before .before .before .before .before .before .before
 
 abbrev reduced : tie.After-read-off-arg3 → tie.After-reduce
-reduced c = c .before .before .before .before .before .before .before .before .before
+reduced c = c .before .before .before .before .before .before .before .before .before .before
 
 reduce-requires : tie.Need-reduce-requires
 reduce-requires c κs =

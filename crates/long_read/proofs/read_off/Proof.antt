@@ -10,22 +10,22 @@ use Rattle.long_read.proofs.read_off.Statement.{statement}
 use Rattle.long_read.proofs.read_off.Tie as tie
 
 abbrev Inv-loop : tie.InvT-loop
-Inv-loop word conflicts under link tops₀ blanks₀ area₀ l₀ k₀ tops blanks area l k =
-    Underway conflicts word under link tops₀ blanks₀ area₀ tops blanks area l k
+Inv-loop word conflicts under link tops₀ marks₀ heights₀ area₀ l₀ k₀ tops marks heights area l k =
+    Underway conflicts word under link tops₀ marks₀ heights₀ area₀ tops marks heights area l k
 
 abbrev μ-loop : tie.MeasureT-loop
-μ-loop word conflicts under link tops₀ blanks₀ area₀ l₀ k₀ tops blanks area l k = length area₀ - l
+μ-loop word conflicts under link tops₀ marks₀ heights₀ area₀ l₀ k₀ tops marks heights area l k = length area₀ - l
 
 -- places on the way
 
-abbrev at-loop-from-line2 : tie.After-line2 Inv-loop μ-loop → tie.At-loop Inv-loop μ-loop
-at-loop-from-line2 c = c .before .before .before .before .before .before .before
+abbrev at-loop-from-cut-arg4 : tie.After-cut-arg4 Inv-loop μ-loop → tie.At-loop Inv-loop μ-loop
+at-loop-from-cut-arg4 c = c .before .before .before .before .before .before .before
 
 abbrev at-loop-from-ready2 : tie.After-ready2 Inv-loop μ-loop → tie.At-loop Inv-loop μ-loop
-at-loop-from-ready2 c = c .before .before .before .before .before .before .before .before .before .before
+at-loop-from-ready2 c = c .before .before .before .before .before .before .before .before .before .before .before
 
 abbrev start : tie.After-ready Inv-loop μ-loop → tie.Start Inv-loop μ-loop
-start c = c .before .before .before .before .before .before
+start c = c .before .before .before .before .before .before .before
 
 loop-holds : tie.Need-loop-holds Inv-loop μ-loop
 loop-holds c = underway-start (start c .pre) (c .ready .ensures)
@@ -49,7 +49,7 @@ add-l c =
 
 cut-requires : tie.Need-cut-requires Inv-loop μ-loop
 cut-requires c κs =
-    let l = at-loop-from-line2 c in
+    let l = at-loop-from-cut-arg4 c in
     underway-cuttable (l .loop .inv) (omega arith)
 
 loop-less : tie.Need-loop-less Inv-loop μ-loop
@@ -60,7 +60,7 @@ loop-less c =
 loop-again : tie.Need-loop-again Inv-loop μ-loop
 loop-again c =
     let l = at-loop-from-ready2 c in
-    underway-again (l .loop .inv) (omega arith) (c .before .before .cut .ensures) (c .ready2 .ensures)
+    underway-again (l .loop .inv) (omega arith) (c .before .before .before .cut .ensures) (c .ready2 .ensures)
 
 same-length : tie.Need-same-length Inv-loop μ-loop
 same-length c = underway-long (c .before .loop .inv)

@@ -3,24 +3,24 @@ use Prim.Native.Nat.{_-_}
 use native.Mathlib.Omega.{arith}
 use Rattle.array_counts.specs.First.{NoneBelow}
 use Rattle.array_counts.specs.FirstLaws.{none-start, none-again, first-found, first-none}
-use Rattle.long_read.specs.Reading.{LetterOnTop}
+use Rattle.long_stacks.specs.Linked.{LetterOnTop}
 use Rattle.long_read.proofs.ready.Statement.{statement}
 use Rattle.long_read.proofs.ready.Tie as tie
 
 abbrev Inv-loop : tie.InvT-loop
-Inv-loop blanks i₀ i = NoneBelow (LetterOnTop blanks) i
+Inv-loop marks heights i₀ i = NoneBelow (LetterOnTop marks heights) i
 
 abbrev μ-loop : tie.MeasureT-loop
-μ-loop blanks i₀ i = 24 - i
+μ-loop marks heights i₀ i = 24 - i
 
 loop-holds : tie.Need-loop-holds Inv-loop μ-loop
 loop-holds c = none-start _
 
 returns : tie.Need-returns Inv-loop μ-loop
-returns c = first-found (c .before .before .before .loop .inv) (omega arith) (c .if1 .taken)
+returns c = first-found (c .before .before .before .before .loop .inv) (omega arith) (c .if1 .taken)
 
 loop-again : tie.Need-loop-again Inv-loop μ-loop
-loop-again c = none-again (c .before .before .before .loop .inv) (omega arith) (c .if1 .left)
+loop-again c = none-again (c .before .before .before .before .loop .inv) (omega arith) (c .if1 .left)
 
 returns-2 : tie.Need-returns-2 Inv-loop μ-loop
 returns-2 c = first-none (c .before .loop .inv) (omega arith)
@@ -32,7 +32,7 @@ ready-spec =
     Inv-loop
     μ-loop
     loop-holds
-    (λ c. omega arith) (λ c. omega arith)
+    (λ c. omega arith) (λ c. omega arith) (λ c. omega arith) (λ c. omega arith)
     returns
     (λ c. omega arith) (λ c. omega arith)
     loop-again

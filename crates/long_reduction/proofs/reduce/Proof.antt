@@ -7,25 +7,25 @@ use Rattle.long_reduction.proofs.reduce.Statement.{statement}
 use Rattle.long_reduction.proofs.reduce.Tie as tie
 
 abbrev Inv-loop : tie.InvT-loop
-Inv-loop word conflicts under₀ link₀ tops₀ blanks₀ i₀ under link tops blanks i =
-    Backwards conflicts word under₀ link₀ tops₀ blanks₀ under link tops blanks i
+Inv-loop word conflicts under₀ link₀ tops₀ marks₀ heights₀ i₀ under link tops marks heights i =
+    Backwards conflicts word under₀ link₀ tops₀ marks₀ heights₀ under link tops marks heights i
 
 abbrev μ-loop : tie.MeasureT-loop
-μ-loop word conflicts under₀ link₀ tops₀ blanks₀ i₀ under link tops blanks i = i
+μ-loop word conflicts under₀ link₀ tops₀ marks₀ heights₀ i₀ under link tops marks heights i = i
 
 -- places on the way
 
-abbrev at-loop-from-step-arg4 : tie.After-step-arg4 Inv-loop μ-loop → tie.At-loop Inv-loop μ-loop
-at-loop-from-step-arg4 c = c .before .before .before .before .before
+abbrev at-loop-from-step-arg5 : tie.After-step-arg5 Inv-loop μ-loop → tie.At-loop Inv-loop μ-loop
+at-loop-from-step-arg5 c = c .before .before .before .before .before .before
 
 abbrev at-loop-from-slice-known4 : tie.After-slice-known4 Inv-loop μ-loop → tie.At-loop Inv-loop μ-loop
-at-loop-from-slice-known4 c = c .before .before .before .before .before .before .before .before .before .before
+at-loop-from-slice-known4 c = c .before .before .before .before .before .before .before .before .before .before .before
 
 loop-holds : tie.Need-loop-holds Inv-loop μ-loop
 loop-holds c = record { some = c .before .before .before .pre; unders = refl; links = refl; reaches = λ k r. r }
 
 step-requires : tie.Need-step-requires Inv-loop μ-loop
-step-requires c κs = backwards-some (at-loop-from-step-arg4 c .loop .inv) (omega arith)
+step-requires c κs = backwards-some (at-loop-from-step-arg5 c .loop .inv) (omega arith)
 
 loop-again : tie.Need-loop-again Inv-loop μ-loop
 loop-again c =

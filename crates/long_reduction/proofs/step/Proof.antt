@@ -12,22 +12,19 @@ use Rattle.long_reduction.proofs.step.Tie as tie
 
 -- places on the way
 
-abbrev else1 : tie.After-line3 → tie.Else1
+abbrev else1 : tie.After-put-arg5 → tie.Else1
 else1 c = c .before .before .before .before .before .before .before .before
 
 abbrev joined2 : tie.After-put → tie.Joined2
-joined2 c = c .before .before .before .before .before .before
+joined2 c = c .before .before .before .before .before .before .before
 
 abbrev start-from-then1 : tie.Then1 → tie.Start
 start-from-then1 c = c .before .before .before .before .before
 
-abbrev then3-from-line2 : tie.After-line2 → tie.Then3
-then3-from-line2 c = c .before .before .before .before .before
+abbrev then3 : tie.After-cut-arg5 → tie.Then3
+then3 c = c .before .before .before .before .before
 
-abbrev then3-from-cut : tie.After-cut → tie.Then3
-then3-from-cut c = c .before .before .before .before .before .before
-
--- the places on the way: past the test for a filler, past the test for blanks, past the test for the undo
+-- the places on the way: past the test for a filler, past the test for a letter on top, past the test for the undo
 abbrev start : tie.Else1 → tie.Start
 start c = c .before .before .before .before .before
 
@@ -50,16 +47,16 @@ sub-k c =
     let s = start c in
     reducing-lettered (s .args .p) (s .pre .1) refl refl (c .if1 .left) .0
 
-element-copy-out-line : tie.Need-element-copy-out-line
-element-copy-out-line c =
+element-copy-out-if2 : tie.Need-element-copy-out-if2
+element-copy-out-if2 c =
     let s = start c in
     reducing-lined (s .args .p) (s .pre .1) refl refl (c .if1 .left) .within
 
-element-copy-out-if2 : tie.Need-element-copy-out-if2
-element-copy-out-if2 c = element-copy-out-line (c .before)
+element-copy-out-if2-2 : tie.Need-element-copy-out-if2-2
+element-copy-out-if2-2 c = element-copy-out-if2 (c .before)
 
 element-copy-out-if3 : tie.Need-element-copy-out-if3
-element-copy-out-if3 c = element-copy-out-line (letter c)
+element-copy-out-if3 c = element-copy-out-if2 (letter c)
 
 cast-if3 : tie.Need-cast-if3
 cast-if3 c =
@@ -82,24 +79,30 @@ shared-slice-read-if3 c =
     let s = start l in
     reducing-inside (s .args .p) (s .pre .1) refl refl (l .if1 .left) (t .if2 .taken)
 
+index-1-cut : tie.Need-index-1-cut
+index-1-cut c = element-copy-out-if2 (letter (bare (then3 c)))
+
 cut-requires : tie.Need-cut-requires
 cut-requires c κs =
-    let t = bare (then3-from-line2 c) in
+    let t = bare (then3 (c .before)) in
     let l = letter t in
     let s = start l in
     reducing-cuttable (s .args .p) (s .pre .1) refl refl (l .if1 .left) (t .if2 .taken)
 
 returns-2 : tie.Need-returns-2
 returns-2 c =
-    let u = then3-from-cut c in
+    let u = then3 (c .before .before) in
     let t = bare u in
     let l = letter t in
     λ k r. reducing-cut (start l .args .p) r refl refl (l .if1 .left) (t .if2 .taken)
     (u .if3 .taken ∙ u .before .undo .ensures) (c .cut .ensures)
 
+index-1-put : tie.Need-index-1-put
+index-1-put c = element-copy-out-if2 (else1 c)
+
 put-requires : tie.Need-put-requires
 put-requires c κs =
-    let l = else1 c in
+    let l = else1 (c .before) in
     let s = start l in
     reducing-puttable (s .args .p) (s .pre .1) refl refl (l .if1 .left)
 
@@ -121,18 +124,21 @@ step-spec =
     (λ c. search needs)
     sub-k
     (λ c. search needs)
-    element-copy-out-line
-    (λ c. search needs)
     element-copy-out-if2
+    (λ c. search needs)
+    element-copy-out-if2-2
     (λ c. search needs)
     element-copy-out-if3
     cast-if3
     sub-if3
     shared-slice-read-if3
-    (λ c κs. search needs)
+    (λ c κs. search needs) (λ c. search needs)
+    index-1-cut
     cut-requires
     (λ c. search needs) (λ c. search needs)
     returns-2
+    (λ c. search needs)
+    index-1-put
     put-requires
     (λ c. search needs) (λ c. search needs)
     returns-3)
