@@ -1,8 +1,6 @@
--- Reading a piling off: what is left of it and what reading yields (Reading), where a search starts (Starts), and laws.
+-- Reading a piling off: what is left of it and what reading yields (Reading), and laws.
 pub mod Reading
-pub mod Starts
 pub mod ReadyLaws
-pub mod StartsLaws
 pub mod LeftLaws
 pub mod ReadLaws
 pub mod PiledLaws

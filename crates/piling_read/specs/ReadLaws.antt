@@ -1,6 +1,6 @@
 -- The loop that reads a piling off: l letters are written, and the beads left are the stacks of the word that is left.
 use Prim.Native.Nat.{ℕ, _+_, _<_, _≤_}
-use mathlib.Core.Path.{_≡_}
+use mathlib.Core.Path.{_≡_, subst}
 use mathlib.Core.List.{List, []}
 use native.Mathlib.Omega.{arith}
 use lib.ListN.{length, getD, set}
@@ -9,8 +9,8 @@ use Rattle.array_counts.specs.Heights.{Both, Changed}
 use Rattle.array_row.specs.Area.{ReadOff}
 use Rattle.array_row.specs.ReadOffLaws.{Reading, reading-start, reading-end, reading-fits, reading-again}
 use Rattle.piling_read.specs.Reading.{lowest, Room, Ready, Left, Readable}
-use Rattle.piling_read.specs.Starts.{Starts}
-use Rattle.piling_read.specs.StartsLaws.{start-passed}
+use Rattle.array_starts.specs.Starts.{Starts}
+use Rattle.array_starts.specs.StartsLaws.{start-passed}
 use Rattle.piling_read.specs.LeftLaws.{left-first, left-shows, left-fits, left-next}
 
 -- the loop's state, for every catalogue and word that the arrays stood for at first
@@ -75,4 +75,8 @@ module _ {conflicts rows : List (List ℕ)} {heights bottoms before at area : Li
 
       pub written-passed : {starts after : List ℕ} → Starts conflicts starts
           → Changed _+_ (getD conflicts k []) at after → NoneBelow (Ready rows heights after) (getD starts k 0)
-      written-passed s a = let (c, x, r) = some in start-passed (r .table) s h rows heights (w .first) a
+      written-passed {after = after} s a =
+          let (c, x, r) = some in
+          start-passed (r .table) s h (w .first) λ i b z.
+          let e : getD after i 0 ≡ getD at i 0 = omega (arith, a .each i (omega arith)) in
+          subst (λ n. (n < getD heights i 0) × (getD (getD rows i []) n 0 ≡ 0 → ⊥)) e

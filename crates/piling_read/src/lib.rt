@@ -3,27 +3,9 @@
 
 ghost use Prim.Native.Nat.{ℕ};
 ghost use mathlib.Core.List.{List};
-ghost use Rattle.input_chains.specs.Conflicts.{Conflicts};
 ghost use Rattle.array_row.specs.Area.{ReadOff};
 ghost use Rattle.array_counts.specs.First.{NoneBelow, FirstWith};
 ghost use Rattle.piling_read.specs.Reading.{Room, Ready, Readable};
-ghost use Rattle.piling_read.specs.Starts.{Starts};
-
-// For each row how many rows come before the first one that conflicts with it.
-fn starts(conflicts: &[[u16; 24]; 24]) -> [u16; 24]
-    requires { ⌜ ((c : List ℕ) × Conflicts c (now conflicts)) ⌝ }
-    ensures { λ r. ⌜ Starts (now (conflicts .entry)) r ⌝ }
-{
-    let mut counts = array_counts::blank_heights();
-    let mut free = array_counts::ones();
-    let mut j = 0;
-    while j < 24 {
-        array_counts::clear(&mut free, &conflicts[j]);
-        array_counts::lift(&mut counts, &free);
-        j += 1;
-    }
-    counts
-}
 
 // The first row whose lowest bead left is no blank, or 24 where there is none. While letters are left few rows are
 // empty, so the bead is looked at before the height.
@@ -91,7 +73,7 @@ fn read(
         (now (area .entry))
         → ReadOff c x (now (area .entry)) (now (area .exit)) r) ⌝ }
 {
-    let starts = starts(conflicts);
+    let starts = array_starts::starts(conflicts);
     let mut l = 0;
     let mut k = ready(rows, heights, at);
     while k < 24 {

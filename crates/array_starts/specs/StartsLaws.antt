@@ -1,6 +1,6 @@
 -- The loop that counts the rows before the first conflict: a row is free as long as it conflicts with none so far.
 use Prim.Native.Nat.{ℕ, _+_, _-_, _<_, _≤_}
-use mathlib.Core.Path.{_≡_, sym, _∙_, ap, subst}
+use mathlib.Core.Path.{_≡_, sym, _∙_, ap}
 use mathlib.Core.List.{List, []}
 use native.Mathlib.Omega.{arith}
 use native.Mathlib.Decide.{decLt}
@@ -15,8 +15,7 @@ use Rattle.array_counts.specs.Blank.{blankHeights, Ones}
 use Rattle.array_counts.specs.BlankLaws.{blank-zero, blank-many}
 use Rattle.array_counts.specs.First.{NoneBelow, FirstWith}
 use Rattle.array_counts.specs.Heights.{Both, Changed, without}
-use Rattle.piling_read.specs.Reading.{Ready}
-use Rattle.piling_read.specs.Starts.{Starts}
+use Rattle.array_starts.specs.Starts.{Starts}
 
 without-left : (f n : ℕ) → without f n ≤ f
 unfolding without
@@ -53,11 +52,12 @@ counting-start {counts = counts} e o = record {
 
 module _ {table : List (List ℕ)} {counts free : List ℕ} {j : ℕ} (n : Counting table counts free j) (l : j < 24) where
   -- the lines hold zeros and ones
-  pub counting-line : ((c : List ℕ) × Conflicts c table) → Both (λ f n. n ≤ 1) free (getD table j [])
-  counting-line (c, t) = record {
+  pub counting-line : ((c : List ℕ) × Conflicts c table) → {k : ℕ} → k < 24
+      → Both (λ f n. n ≤ 1) free (getD table k [])
+  counting-line (c, t) {k} m = record {
     many = n .wide;
-    wide = t .wide j l;
-    holds = λ i h. omega (arith, t .tells j i l h, yes-low (conflict c (j + 1) (i + 1)));
+    wide = t .wide k m;
+    holds = λ i h. omega (arith, t .tells k i m h, yes-low (conflict c (k + 1) (i + 1)));
   }
 
   module _ {left : List ℕ} (a : Changed without (getD table j []) free left) where
@@ -99,7 +99,8 @@ pub counting-end : {table : List (List ℕ)} {counts free : List ℕ} {j : ℕ} 
     → Starts table counts
 counting-end n = record { within = λ k l. omega (arith, n .low k l); apart = n .apart }
 
--- the rows below the start of row k are as they were when a letter of row k has been read: not ready
+-- what is told of the rows below the start of row k is as it was when a letter of row k has changed the rows that
+-- conflict with it: false of each, if k was the first of which it was true
 module _ {c : List ℕ} {table : List (List ℕ)} {starts : List ℕ} {k : ℕ} (t : Conflicts c table)
     (s : Starts table starts) (l : k < 24) where
   start-low : getD starts k 0 ≤ k
@@ -114,13 +115,11 @@ module _ {c : List ℕ} {table : List (List ℕ)} {starts : List ℕ} {k : ℕ} 
       let m : i < 24 = omega (arith, start-low) in
       t .tells k i l m ∙ ap yesNo (conflict-sym c (k + 1) (i + 1)) ∙ sym (t .tells i k m l) ∙ s .apart k l i h
 
-  pub start-passed : (rows : List (List ℕ)) (heights : List ℕ) {at after : List ℕ} → FirstWith (Ready rows heights at) k
-      → Changed _+_ (getD table k []) at after → NoneBelow (Ready rows heights after) (getD starts k 0)
-  start-passed rows heights {at} {after} f a = record {
+  pub start-passed : {P Q : ℕ → Type 0} → FirstWith P k
+      → ((i : ℕ) → i < k → getD (getD table k []) i 0 ≡ 0 → Q i → P i) → NoneBelow Q (getD starts k 0)
+  start-passed f same = record {
     within = s .within k l;
-    none = λ i h o.
+    none = λ i h q.
         let b : i < k = omega (arith, start-low) in
-        let e : getD after i 0 ≡ getD at i 0 = omega (arith, a .each i (omega arith), start-apart i h) in
-        f .before i b
-        (subst (λ n. (n < getD heights i 0) × (getD (getD rows i []) n 0 ≡ 0 → ⊥)) e o);
+        f .before i b (same i b (start-apart i h) q);
   }

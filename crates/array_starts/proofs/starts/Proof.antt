@@ -1,10 +1,10 @@
--- `piling_read::starts` meets its contract: the lines below j have been counted.
+-- `array_starts::starts` meets its contract: the lines below j have been counted.
 use Prim.Native.Nat.{_-_}
 use native.Mathlib.Omega.{arith}
-use Rattle.piling_read.specs.StartsLaws.{Counting, counting-start, counting-line, counting-room, counting-again}
-use Rattle.piling_read.specs.StartsLaws.{counting-end}
-use Rattle.piling_read.proofs.starts.Statement.{statement}
-use Rattle.piling_read.proofs.starts.Tie as tie
+use Rattle.array_starts.specs.StartsLaws.{Counting, counting-start, counting-line, counting-room, counting-again}
+use Rattle.array_starts.specs.StartsLaws.{counting-end}
+use Rattle.array_starts.proofs.starts.Statement.{statement}
+use Rattle.array_starts.proofs.starts.Tie as tie
 
 abbrev Inv-loop : tie.InvT-loop
 Inv-loop conflicts counts₀ free₀ j₀ counts free j = Counting conflicts counts free j
@@ -26,7 +26,7 @@ loop-holds c = counting-start (c .before .blank-heights .ensures) (c .ones .ensu
 clear-requires : tie.Need-clear-requires Inv-loop μ-loop
 clear-requires c κs =
     let i = c .before .before in
-    counting-line (i .before .loop .inv) (i .loop-test .taken) (i .before .before .before .before .pre)
+    counting-line (i .before .loop .inv) (i .loop-test .taken) (i .before .before .before .before .pre) (omega arith)
 
 lift-requires : tie.Need-lift-requires Inv-loop μ-loop
 lift-requires c κs =
