@@ -1,13 +1,17 @@
 -- The loop that reads the stacks of a long word off: l letters are written, and the arrays hold the stacks of the word
 -- that is left.
 use Prim.Native.Nat.{ℕ, _+_, _-_, _<_, _≤_}
-use mathlib.Core.Path.{_≡_}
+use native.Mathlib.Omega.{arith}
+use mathlib.Core.Path.{_≡_, _∙_, ap}
 use mathlib.Core.List.{List, []}
 use lib.ListN.{length, getD, set}
+use lib.Seq.{getD-set-other}
 use Rattle.input_chains.specs.Conflicts.{Conflicts}
-use Rattle.array_counts.specs.First.{FirstWith}
+use Rattle.array_counts.specs.First.{NoneBelow, FirstWith}
 use Rattle.array_row.specs.Area.{ReadOff}
 use Rattle.array_row.specs.ReadOffLaws.{Shows, Reading, reading-start, reading-end, reading-fits, reading-again}
+use Rattle.array_starts.specs.Starts.{Starts}
+use Rattle.array_starts.specs.StartsLaws.{start-passed}
 use Rattle.long_stacks.specs.Linked.{Stacks, LetterOnTop}
 use Rattle.long_stacks.specs.Moves.{Cuttable, Cut}
 use Rattle.long_stacks.specs.StacksLaws.{Lined, stacks-topped, stacks-first, first-stacks, stacks-cuttable, stacks-cut}
@@ -71,6 +75,17 @@ module _ {conflicts : List (List ℕ)} {word under link tops₀ marks₀ heights
           reading-again g (stacks-shown (g .left)) (w .first) h (Stacks c word under link tops′ marks′ heights′ 0)
           (λ v m p. stacks-cut (g .left) (lined (r .table)) p m u);
     }
+
+    -- no stack below the start of row k has a letter on top when the letter of row k is off
+    pub underway-passed : {starts tops′ marks′ heights′ : List ℕ} → Starts conflicts starts
+        → Cut under link tops marks heights (getD conflicts k []) k tops′ marks′ heights′
+        → NoneBelow (LetterOnTop marks′ heights′) (getD starts k 0)
+    underway-passed {marks′ = marks′} s u =
+        let (c, x, r) = w .some in
+        start-passed (r .table) s h (w .first) λ i b z q.
+        let e : getD marks′ i 0 ≡ getD marks i 0
+        = ap (λ m. getD m i 0) (u .written .mark) ∙ getD-set-other marks k i _ 0 (omega arith) in
+        omega (arith, e, q, u .lowered .each i (omega arith))
 
     pub underway-inside : getD tops k 0 - 1 < length word
     underway-inside =

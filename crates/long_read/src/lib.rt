@@ -4,16 +4,17 @@
 use long_stacks::cut;
 ghost use Prim.Native.Nat.{ℕ};
 ghost use mathlib.Core.List.{List};
-ghost use Rattle.array_counts.specs.First.{FirstWith};
+ghost use Rattle.array_counts.specs.First.{NoneBelow, FirstWith};
 ghost use Rattle.array_row.specs.Area.{ReadOff};
 ghost use Rattle.long_stacks.specs.Linked.{LetterOnTop};
 ghost use Rattle.long_read.specs.Reading.{Readable};
 
-// The index of the first stack with a letter on top, or 24 where there is none.
-fn ready(marks: &[u16; 24], heights: &[u16; 24]) -> usize
+// The index of the first stack with a letter on top, or 24 where there is none. No stack below the start has one.
+fn ready(marks: &[u16; 24], heights: &[u16; 24], start: usize) -> usize
+    requires { ⌜ NoneBelow (LetterOnTop (now marks) (now heights)) start ⌝ }
     ensures { λ r. ⌜ FirstWith (LetterOnTop (now (marks .entry)) (now (heights .entry))) r ⌝ }
 {
-    let mut i = 0;
+    let mut i = start;
     while i < 24 {
         if marks[i] == heights[i] {
             return i;
@@ -23,7 +24,8 @@ fn ready(marks: &[u16; 24], heights: &[u16; 24]) -> usize
     24
 }
 
-// Reads the stacks off into the area: each time the top of the first stack that has a letter on top.
+// Reads the stacks off into the area: each time the top of the first stack that has a letter on top. A letter changes
+// only the stacks that conflict with its own: those below the first of these still have no letter on top.
 pub fn read_off(
     word: &[u8],
     conflicts: &[[u16; 24]; 24],
@@ -42,13 +44,14 @@ pub fn read_off(
         (now (tops .entry)) (now (marks .entry)) (now (heights .entry)) x (now (area .entry))
         → ReadOff c x (now (area .entry)) (now (area .exit)) r) ⌝ }
 {
+    let starts = array_starts::starts(conflicts);
     let mut l = 0;
-    let mut k = ready(marks, heights);
+    let mut k = ready(marks, heights, 0);
     while k < 24 {
         area[l] = word[tops[k] as usize - 1];
         l += 1;
         cut(under, link, tops, marks, heights, &conflicts[k], k);
-        k = ready(marks, heights);
+        k = ready(marks, heights, starts[k] as usize);
     }
     l
 }

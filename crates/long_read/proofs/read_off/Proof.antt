@@ -3,18 +3,19 @@
 use Prim.Native.Nat.{_-_}
 use native.Mathlib.Omega.{arith}
 use lib.ListN.{length}
-use borrow.Author.Needs.{needs}
+use Rattle.array_counts.specs.FirstLaws.{none-start}
+use Rattle.array_starts.specs.Starts.{Starts}
 use Rattle.long_read.specs.ReadLaws.{Underway, underway-start, underway-end, underway-long, underway-again}
-use Rattle.long_read.specs.ReadLaws.{underway-inside, underway-fits, underway-cuttable}
+use Rattle.long_read.specs.ReadLaws.{underway-inside, underway-fits, underway-cuttable, underway-passed}
 use Rattle.long_read.proofs.read_off.Statement.{statement}
 use Rattle.long_read.proofs.read_off.Tie as tie
 
 abbrev Inv-loop : tie.InvT-loop
-Inv-loop word conflicts under link tops₀ marks₀ heights₀ area₀ l₀ k₀ tops marks heights area l k =
+Inv-loop word conflicts under link tops₀ marks₀ heights₀ area₀ starts l₀ k₀ tops marks heights area l k =
     Underway conflicts word under link tops₀ marks₀ heights₀ area₀ tops marks heights area l k
 
 abbrev μ-loop : tie.MeasureT-loop
-μ-loop word conflicts under link tops₀ marks₀ heights₀ area₀ l₀ k₀ tops marks heights area l k = length area₀ - l
+μ-loop word conflicts under link tops₀ marks₀ heights₀ area₀ starts l₀ k₀ tops marks heights area l k = length area₀ - l
 
 -- places on the way
 
@@ -24,8 +25,21 @@ at-loop-from-cut-arg4 c = c .before .before .before .before .before .before .bef
 abbrev at-loop-from-ready2 : tie.After-ready2 Inv-loop μ-loop → tie.At-loop Inv-loop μ-loop
 at-loop-from-ready2 c = c .before .before .before .before .before .before .before .before .before .before .before
 
+abbrev at-loop-from-ready-arg4 : tie.After-ready-arg4 Inv-loop μ-loop → tie.At-loop Inv-loop μ-loop
+at-loop-from-ready-arg4 c = c .before .before .before .before .before .before .before .before .before .before
+
 abbrev start : tie.After-ready Inv-loop μ-loop → tie.Start Inv-loop μ-loop
-start c = c .before .before .before .before .before .before .before
+start c = c .before .before .before .before .before .before .before .before
+
+starts-of : (c : tie.At-loop Inv-loop μ-loop)
+    → Starts (start (c .before) .args .conflicts .now) (c .before .before .before .before .starts .result)
+starts-of c = c .before .before .before .before .starts .ensures
+
+starts-requires : tie.Need-starts-requires Inv-loop μ-loop
+starts-requires c κs = let (t, x, r) = c .before .before .before .before .pre in (t, r .table)
+
+ready-requires : tie.Need-ready-requires Inv-loop μ-loop
+ready-requires c κs = none-start _
 
 loop-holds : tie.Need-loop-holds Inv-loop μ-loop
 loop-holds c = underway-start (start c .pre) (c .ready .ensures)
@@ -52,6 +66,16 @@ cut-requires c κs =
     let l = at-loop-from-cut-arg4 c in
     underway-cuttable (l .loop .inv) (omega arith)
 
+cast-ready : tie.Need-cast-ready Inv-loop μ-loop
+cast-ready c =
+    let l = at-loop-from-ready-arg4 c in
+    omega (arith, starts-of l .within (l .loop .k) (omega arith))
+
+ready-requires-2 : tie.Need-ready-requires-2 Inv-loop μ-loop
+ready-requires-2 c κs =
+    let l = at-loop-from-ready-arg4 c in
+    underway-passed (l .loop .inv) (omega arith) (starts-of l) (c .before .before .cut .ensures)
+
 loop-less : tie.Need-loop-less Inv-loop μ-loop
 loop-less c =
     let l = at-loop-from-ready2 c in
@@ -74,7 +98,8 @@ read-off-spec =
     (tie.spec
     Inv-loop
     μ-loop
-    (λ c κs. search needs)
+    starts-requires
+    ready-requires
     loop-holds
     (λ c. omega arith) (λ c. omega arith)
     cast-area
@@ -84,7 +109,9 @@ read-off-spec =
     add-l
     (λ c. omega arith) (λ c. omega arith)
     cut-requires
-    (λ c κs. search needs)
+    (λ c. omega arith) (λ c. omega arith)
+    cast-ready
+    ready-requires-2
     loop-less
     loop-again
     same-length

@@ -2,19 +2,19 @@
 use Prim.Native.Nat.{_-_}
 use native.Mathlib.Omega.{arith}
 use Rattle.array_counts.specs.First.{NoneBelow}
-use Rattle.array_counts.specs.FirstLaws.{none-start, none-again, first-found, first-none}
+use Rattle.array_counts.specs.FirstLaws.{none-again, first-found, first-none}
 use Rattle.long_stacks.specs.Linked.{LetterOnTop}
 use Rattle.long_read.proofs.ready.Statement.{statement}
 use Rattle.long_read.proofs.ready.Tie as tie
 
 abbrev Inv-loop : tie.InvT-loop
-Inv-loop marks heights i₀ i = NoneBelow (LetterOnTop marks heights) i
+Inv-loop marks heights start i₀ i = NoneBelow (LetterOnTop marks heights) i
 
 abbrev μ-loop : tie.MeasureT-loop
-μ-loop marks heights i₀ i = 24 - i
+μ-loop marks heights start i₀ i = 24 - i
 
 loop-holds : tie.Need-loop-holds Inv-loop μ-loop
-loop-holds c = none-start _
+loop-holds c = c .pre
 
 returns : tie.Need-returns Inv-loop μ-loop
 returns c = first-found (c .before .before .before .before .loop .inv) (omega arith) (c .if1 .taken)
