@@ -51,6 +51,13 @@ fn normal_form(
     )
 }
 
+// Links for a word of at most 256 letters.
+fn links_256() -> [u16; 256]
+    ensures { λ r. ⌜ 256 ≡ length r ⌝ }
+{
+    [0; 256]
+}
+
 // Links for a word of at most 1,024 letters.
 fn links_1024() -> [u16; 1024]
     ensures { λ r. ⌜ 1024 ≡ length r ⌝ }
@@ -79,8 +86,17 @@ fn links_50176() -> [u16; 50176]
     [0; 50176]
 }
 
-// The normal form of a word, with links for so many letters. These are four functions, each with one call, so that the
+// The normal form of a word, with links for so many letters. These are five functions, each with one call, so that the
 // links of all take one place on the stack: as locals of one function each had its own, 45,056 bytes more.
+
+fn form_256(word: &[u8], conflicts: &[[u16; 24]; 24], area: &mut [u8]) -> usize
+    requires { ⌜ ((c : List ℕ) × Formable 256 c (now conflicts) (now word) (now area)) ⌝ }
+    ensures { λ r. ⌜ Formed (now (conflicts .entry)) (now (word .entry)) (now (area .entry)) (now (area .exit)) r ⌝ }
+{
+    let mut under = links_256();
+    let mut link = links_256();
+    normal_form(word, conflicts, &mut under, &mut link, area)
+}
 
 fn form_1024(word: &[u8], conflicts: &[[u16; 24]; 24], area: &mut [u8]) -> usize
     requires { ⌜ ((c : List ℕ) × Formable 1024 c (now conflicts) (now word) (now area)) ⌝ }
@@ -118,11 +134,18 @@ fn form_50176(word: &[u8], conflicts: &[[u16; 24]; 24], area: &mut [u8]) -> usiz
     normal_form(word, conflicts, &mut under, &mut link, area)
 }
 
-// Writes the normal form of the word, of at most 50,176 letters, into the area and gives its length.
+// Writes the normal form of the word, of at most 50,176 letters, into the area and gives its length. An empty word
+// clears nothing.
 pub fn form(word: &[u8], conflicts: &[[u16; 24]; 24], area: &mut [u8]) -> usize
     requires { ⌜ ((c : List ℕ) × Formable 50176 c (now conflicts) (now word) (now area)) ⌝ }
     ensures { λ r. ⌜ Formed (now (conflicts .entry)) (now (word .entry)) (now (area .entry)) (now (area .exit)) r ⌝ }
 {
+    if word.len() == 0 {
+        return 0;
+    }
+    if word.len() <= 256 {
+        return form_256(word, conflicts, area);
+    }
     if word.len() <= 1024 {
         return form_1024(word, conflicts, area);
     }
