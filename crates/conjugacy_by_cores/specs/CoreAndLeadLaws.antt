@@ -1,14 +1,15 @@
--- Whether two plans are joined, and after how many rounds, from their cores in normal form; and the lead-in, which is a
+-- Whether two plans are joined, and after how many rounds, from their cores up to swaps; and the lead-in, which is a
 -- normal form, joins and fits.
-use Prim.Native.Nat.{ℕ, _+_, _*_, _≤_}
+use Prim.Native.Nat.{ℕ, _+_, _*_, _≤_, max}
 use native.Mathlib.Omega.{arith}
 use native.Mathlib.Nat.{mul-le-mul-left}
-use mathlib.Core.Path.{_≡_, sym, _∙_, ap, ap₂, subst}
+use mathlib.Core.Path.{_≡_, sym, _∙_, ap, ap₂}
 use mathlib.Core.Bool.{true}
 use mathlib.Core.List.{List}
 use lib.ListN.{length}
 use Rattle.theory_words.specs.All.{all-along}
 use Rattle.theory_words.specs.Trace as Trace
+use Rattle.theory_words.specs.Trace.{next}
 use Rattle.theory_words.specs.TraceLaws.{~-sym, ~-length}
 use Rattle.theory_words.specs.Group as Group
 use Rattle.theory_words.specs.Group.{conj, then, back}
@@ -17,7 +18,8 @@ use Rattle.theory_words.specs.ReduceLaws.{reduce-length}
 use Rattle.theory_words.specs.Normal.{nf}
 use Rattle.theory_words.specs.NormalLaws.{nf-≈, nf-fixed, nf-reduced, nf-ordered, nf-length}
 use Rattle.theory_conjugacy.specs.TurnLaws.{turns-length}
-use Rattle.theory_conjugacy.specs.Core.{core}
+use Rattle.theory_conjugacy.specs.Rounds.{core-rounds}
+use Rattle.theory_conjugacy.specs.RoundsLaws.{core-rounds-along}
 use Rattle.theory_conjugacy.specs.CoreLaws.{core-conj, core-length, core-all}
 use Rattle.theory_conjugacy.specs.ConjugateLaws.{conjugate-cores}
 use Rattle.theory_conjugacy.specs.Decision.{cores-joined?, joined?}
@@ -31,6 +33,7 @@ use Rattle.spec_laws.specs.LettersLaws.{letters-commands, letters-length, lette
 use Rattle.spec_laws.specs.NormalFormLaws.{normal-letters, normal-passing}
 use Rattle.spec_laws.specs.JoinLaws.{joins-words}
 use Rattle.spec_laws.specs.CoreFormLaws.{form-~}
+use Rattle.spec.specs.Calls.{coreForm}
 use Rattle.spec.specs.Rounds.{loopsRounds}
 use Rattle.spec.specs.Loops.{LeadIn, leadInRoom}
 use Rattle.conjugacy_of_cores.specs.Pair.{Conjugator, coresRounds}
@@ -48,19 +51,19 @@ module _ (c : List ℕ) where
   _≈_ = Group._≈_ (alphabet c)
 
   module _ {v x g : List ℕ} (k : CoreAndLead c v x g) where
-    pub core-~ : x ~ core (alphabet c) (letters v)
-    core-~ = subst (λ (z : List ℕ). z ~ core (alphabet c) (letters v)) (sym (k .form)) (form-~ c v)
-
     pub off-conj : conj (alphabet c) g (letters v) ≈ x
     off-conj =
         then (≈-conj-by (alphabet c) (~→≈ (alphabet c) (k .off)) (letters v))
-        (then (core-conj (alphabet c) (letters v)) (back (~→≈ (alphabet c) core-~)))
+        (then (core-conj (alphabet c) (letters v)) (back (~→≈ (alphabet c) (k .core))))
+
+    rounds : core-rounds (alphabet c) x ≡ core-rounds (alphabet c) (coreForm c v)
+    rounds = core-rounds-along (alphabet c) (next (k .core) (~-sym (alphabet c) (form-~ c v)))
 
     pub off-length : 2 * length g + length x ≤ length (letters v)
     off-length = omega (
       arith,
       ~-length (alphabet c) (k .off),
-      ~-length (alphabet c) core-~,
+      ~-length (alphabet c) (k .core),
       core-length (alphabet c) (letters v),
       reduce-length (alphabet c) (letters v),
     )
@@ -70,7 +73,7 @@ module _ (c : List ℕ) where
         let P : ℕ → Type 0 = λ b. isCommand (commands c) b ≡ true in
         let (a, b) = core-all (alphabet c) P (letters v) (letters-commands (commands c) v h) in
         let along = ~-sym (alphabet c) (k .off) in
-        (all-along (alphabet c) P along a, all-along (alphabet c) P (~-sym (alphabet c) core-~) b)
+        (all-along (alphabet c) P along a, all-along (alphabet c) P (~-sym (alphabet c) (k .core)) b)
 
   -- two plans
 
@@ -97,11 +100,11 @@ module _ (c : List ℕ) where
         omega (arith, r v pv, r w pw, off-length k, off-length l)
 
     pub cores-joined-plans : cores-joined? (alphabet c) x y ≡ joined? (alphabet c) (letters v) (letters w)
-    cores-joined-plans = cores-joined-same (alphabet c) (letters v) (letters w) x y (core-~ k) (core-~ l)
+    cores-joined-plans = cores-joined-same (alphabet c) (letters v) (letters w) x y (k .core) (l .core)
 
     pub cores-rounds-plans : coresRounds c x y ≡ loopsRounds c v w
     unfolding loopsRounds
-    cores-rounds-plans = ap₂ (coresRounds c) (k .form) (l .form)
+    cores-rounds-plans = ap₂ max (rounds k) (rounds l)
 
     -- from a conjugator between the cores, one between the plans
     module _ {u : List ℕ} (q : Conjugator c x y u) where
@@ -117,7 +120,7 @@ module _ (c : List ℕ) where
       same-length : length x ≡ length y
       same-length =
           let e = turns-length (alphabet c) (conjugate-cores (alphabet c) t (letters v) (letters w) conjugates) in
-          ~-length (alphabet c) (core-~ k) ∙ e ∙ sym (~-length (alphabet c) (core-~ l))
+          ~-length (alphabet c) (k .core) ∙ e ∙ sym (~-length (alphabet c) (l .core))
 
       pub through-commands : Commands (commands c) t
       through-commands =

@@ -20,7 +20,7 @@ pub record Plans (c : List ℕ) (conflicts : List (List ℕ)) (v w : List ℕ) :
   pub first : Passed c conflicts v
   pub second : Passed c conflicts w
 
--- two plans with their cores in normal form and the letters taken off in front of those
+-- two plans with their cores and the letters taken off in front of those
 pub record Cores (c : List ℕ) (conflicts : List (List ℕ)) (v w core1 lead1 core2 lead2 : List ℕ) : Type 0 where
   pub plans : Plans c conflicts v w
   pub first : CoreAndLead c v core1 lead1

@@ -28,7 +28,7 @@ use Rattle.conjugacy_of_cores.specs.Pair.{Coreable, CoresJoined, coresRounds, C
 use Rattle.input_checks.specs.Passed.{Passed}
 use Rattle.conjugacy_by_cores.specs.ThroughLaws.{through, through-count}
 use Rattle.conjugacy_by_cores.specs.CoreAndLead.{CoreAndLead}
-use Rattle.conjugacy_by_cores.specs.CoreAndLeadLaws.{core-~, off-length, off-commands, no-letters, through-joined}
+use Rattle.conjugacy_by_cores.specs.CoreAndLeadLaws.{off-length, off-commands, no-letters, through-joined}
 use Rattle.conjugacy_by_cores.specs.CoreAndLeadLaws.{through-commands, through-room, through-short}
 use Rattle.conjugacy_by_cores.specs.CoreAndLeadLaws.{through-lead-in, cores-joined-plans, cores-rounds-plans}
 use Rattle.conjugacy_by_cores.specs.Join.{Plans, Cores, wordRoom, WordJoined, WordOutcome}
@@ -41,7 +41,7 @@ core-cyclic {c} {v = v} p k = record {
   table = p .table;
   few = p .few;
   letters = off-commands c k (p .passing) .1;
-  round = round-~ (alphabet c) (~-sym (alphabet c) (core-~ c k)) (core-round (alphabet c) (letters v));
+  round = round-~ (alphabet c) (~-sym (alphabet c) (k .core)) (core-round (alphabet c) (letters v));
   short = omega (arith, off-length c k, letters-length v, p .short);
 }
 

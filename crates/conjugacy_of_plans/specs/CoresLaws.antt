@@ -15,7 +15,7 @@ use Rattle.spec_laws.specs.CoreFormLaws.{form-~}
 module _ {c v core lead core′ lead′ : List ℕ} {n m : ℕ} (k : CoreOf c v core lead core′ lead′ n m) where
   pub core-and-lead : CoreAndLead c v (take n core′) (take m lead′)
   core-and-lead = record {
-    form = starts-take (k .form);
+    core = rw (starts-take (k .form)) (form-~ c v);
     off = k .off;
   }
 
