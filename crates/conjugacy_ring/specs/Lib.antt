@@ -1,3 +1,4 @@
 pub mod PartLaws
 pub mod Ring
 pub mod RingLaws
+pub mod SortedLaws

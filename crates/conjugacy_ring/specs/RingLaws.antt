@@ -12,7 +12,7 @@ use Rattle.theory_words.specs.Normal.{nf, lex}
 use Rattle.spec.specs.Catalogue.{commands}
 use Rattle.spec.specs.Plan.{isCommand}
 use Rattle.spec.specs.Letters.{letters, alphabet, normalForm}
-use Rattle.spec_laws.specs.LettersLaws.{Commands, letters-same, letters-length, commands-passing}
+use Rattle.spec_laws.specs.LettersLaws.{Commands, letters-same}
 use Rattle.theory_conjugacy.specs.TurnLaws.{round-turns, round-reduced}
 use Rattle.theory_conjugacy.specs.Part.{part}
 use Rattle.theory_conjugacy.specs.PartLaws.{part-connected, apex-occurs}
@@ -22,8 +22,6 @@ use Rattle.theory_conjugacy.specs.Decision.{part-ring}
 use Rattle.theory_conjugacy.specs.LeadInLaws.{settling-cycled, settling-ring}
 use Rattle.array_row.specs.Area.{StartsWith}
 use Rattle.array_row.specs.AreaLaws.{starts-length, starts-take}
-use Rattle.long_reduction.specs.Reducing.{Given}
-use Rattle.long_form.specs.Forming.{Formable}
 use Rattle.conjugacy_settled_parts.specs.declared.Ends.{Ends}
 use Rattle.conjugacy_settled_parts.specs.PartOf.{Cyclic, PartOf, SettledOf}
 use Rattle.conjugacy_settled_parts.specs.PartOfLaws.{part-short, part-letters, settled-rounds}
@@ -38,22 +36,23 @@ module _ {c : List ℕ} {conflicts : List (List ℕ)} {x : List ℕ} (k : Cyclic
   settled-letters =
       turns-all (alphabet c) (λ b. isCommand (commands c) b ≡ true) (rounded-turns (alphabet c) m o) (part-letters k m)
 
+  settled-cyclic : Cyclic c conflicts w
+  settled-cyclic = record {
+    table = k .table;
+    few = k .few;
+    letters = settled-letters;
+    round = round-turns (alphabet c) (rounded-turns (alphabet c) m o) (part-round (alphabet c) m x (k .round));
+    short = omega (arith, rounded-as-long (alphabet c) m o, part-short k m, k .short);
+  }
+
   -- its normal form is the word in order
   settled-normal : normalForm c w ≡ lex (alphabet c) (length w) w
   unfolding normalForm nf
   settled-normal =
       let e : letters w ≡ w = letters-same (commands c) w settled-letters in
-      let r : reduce (alphabet c) w ≡ w = reduce-fixed (alphabet c) w (round-reduced (alphabet c) w
-      (round-turns (alphabet c) (rounded-turns (alphabet c) m o) (part-round (alphabet c) m x (k .round)))) in
+      let r : reduce (alphabet c) w ≡ w =
+      reduce-fixed (alphabet c) w (round-reduced (alphabet c) w (settled-cyclic .round)) in
       ap (nf (alphabet c)) e ∙ ap (λ (z : List ℕ). lex (alphabet c) (length z) z) r
-
-  settled-given : Given c conflicts w
-  settled-given = record {
-    table = k .table;
-    few = k .few;
-    passing = commands-passing (commands c) w settled-letters;
-    short = omega (arith, rounded-as-long (alphabet c) m o, part-short k m, k .short);
-  }
 
 -- from the settled part to the ring
 
@@ -73,15 +72,11 @@ module _ {c : List ℕ} {conflicts : List (List ℕ)} {x labels : List ℕ} {ape
   pub lent-fits : e .letters ≤ length word
   lent-fits = omega (arith, lent-count, length-take (e .letters) word)
 
-  pub lent-given : Given c conflicts z
-  lent-given = settled-given y (s .ended .rounded)
+  pub lent-cyclic : Cyclic c conflicts z
+  lent-cyclic = settled-cyclic y (s .ended .rounded)
 
-  pub lent-formable : {ring : List ℕ} → length x ≤ length ring → Formable 50176 c conflicts z ring
-  lent-formable f = record {
-    given = lent-given;
-    short = lent-given .short;
-    fits = omega (arith, f, letters-length z, lent-count, s .many, part-short y apex);
-  }
+  pub lent-short : length z ≤ length x
+  lent-short = omega (arith, lent-count, s .many, part-short y apex)
 
   pub lent-rung : {before after : List ℕ} {r : ℕ} → StartsWith (normalForm c z) before after r
       → Rung c x apex after out out′ at (record { letters = r; cycled = e .cycled; rounds = e .rounds })

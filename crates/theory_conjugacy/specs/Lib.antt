@@ -14,6 +14,8 @@ pub mod Core
 pub mod Part
 pub mod AscendingLaws
 pub mod CommandLaws
+pub mod Clique
+pub mod CliqueLaws
 pub mod CoreLaws
 pub mod LabelLaws
 pub mod PartLaws

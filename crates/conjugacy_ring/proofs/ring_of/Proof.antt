@@ -1,6 +1,7 @@
 -- `conjugacy_ring::ring_of` meets its contract: the settled part is lent for its normal form. Assumes nothing.
+use native.Mathlib.Omega.{arith}
 use borrow.Author.Needs.{needs}
-use Rattle.conjugacy_ring.specs.RingLaws.{lent-count, lent-fits, lent-given, lent-formable, lent-rung}
+use Rattle.conjugacy_ring.specs.RingLaws.{lent-count, lent-fits, lent-cyclic, lent-short, lent-rung}
 use Rattle.conjugacy_ring.proofs.ring_of.Statement.{statement}
 use Rattle.conjugacy_ring.proofs.ring_of.Tie as tie
 
@@ -13,17 +14,18 @@ array-share-prefix-word c =
     let ((k, h), l) = start t .pre in
     lent-fits h (t .settle-part .ensures k h)
 
-slice-aggregate-form : tie.Need-slice-aggregate-form
-slice-aggregate-form c =
+slice-aggregate-sorted : tie.Need-slice-aggregate-sorted
+slice-aggregate-sorted c =
     let t = c .before .before .before .before in
     let ((k, h), l) = start t .pre in
     lent-count h (t .settle-part .ensures k h)
 
-form-requires : tie.Need-form-requires
-form-requires c κs =
+sorted-requires : tie.Need-sorted-requires
+sorted-requires c κs =
     let t = c .before .before .before .before .before in
     let ((k, h), l) = start t .pre in
-    (k, lent-formable h (t .settle-part .ensures k h) l)
+    let s = t .settle-part .ensures k h in
+    ((k, lent-cyclic h s), omega (arith, l, lent-short h s))
 
 returns : tie.Need-returns
 returns c =
@@ -31,7 +33,7 @@ returns c =
     let t = f .before .before .before .before .before .before in
     λ k h.
     let s = t .settle-part .ensures k h in
-    lent-rung h s (f .form .ensures k (lent-given h s))
+    lent-rung h s (f .sorted .ensures k (lent-cyclic h s))
 
 pub ring-of-spec : {M : Type 1} → statement M
 ring-of-spec =
@@ -39,7 +41,7 @@ ring-of-spec =
     (tie.spec
     (λ c κs. search needs) (λ c. search needs) (λ c κs. search needs)
     array-share-prefix-word
-    slice-aggregate-form
-    form-requires
+    slice-aggregate-sorted
+    sorted-requires
     (λ c. search needs) (λ c. search needs)
     returns)
