@@ -15,17 +15,8 @@ use Rattle.spec.specs.Answers.{yesNo}
 use Rattle.input_chains.specs.MarkingLaws.{yes-low}
 use Rattle.spec.specs.AlphabetLaws.{conflict-refl, conflict-sym}
 use Rattle.spec.specs.Letters.{alphabet}
-use Rattle.array_sets.specs.Sets.{In, Clear, Table, Added, empty}
+use Rattle.array_sets.specs.Sets.{In, Clear, Table, Has, Marks, Added, empty}
 use Rattle.array_sets.specs.SetsLaws.{none-in}
-
--- a is a command in the set
-abbrev Has : List ℕ → ℕ → Type 0
-Has s a = (1 ≤ a) × (a ≤ 24) × In s (a - 1)
-
--- the commands in the set are those in the list
-pub record Marks (s R : List ℕ) : Type 0 where
-  pub held : All (Has s) R
-  pub only : (j : ℕ) → j < 24 → In s j → List·Memᴰ (j + 1) R
 
 pub marks-none : Marks empty []
 marks-none = record { held = tt; only = λ j l e. absurd (none-in j e) }

@@ -1,14 +1,24 @@
 -- A set of the commands 1 to 24 as 24 numbers. The number at index j is 0 if command j + 1 conflicts with no command in
 -- the set, and 32,768 or more if it is in the set itself.
-use Prim.Native.Nat.{ℕ, suc, _+_, _<_, _≤_}
+use Prim.Native.Nat.{ℕ, suc, _+_, _-_, _<_, _≤_}
 use mathlib.Core.Path.{_≡_}
 use mathlib.Core.Logic.{_↔_, _⊎_}
-use mathlib.Core.List.{List, [], _∷_}
+use mathlib.Core.List.{List, [], _∷_, List·Memᴰ}
 use lib.ListN.{length, getD, replicate}
+use Rattle.theory_words.specs.All.{All}
 
 -- command j + 1 is in the set
 abbrev pub In : List ℕ → ℕ → Type 0
 In s j = 32768 ≤ getD s j 0
+
+-- a is a command in the set
+abbrev pub Has : List ℕ → ℕ → Type 0
+Has s a = (1 ≤ a) × (a ≤ 24) × In s (a - 1)
+
+-- the commands in the set are those in the list
+pub record Marks (s R : List ℕ) : Type 0 where
+  pub held : All (Has s) R
+  pub only : (j : ℕ) → j < 24 → In s j → List·Memᴰ (j + 1) R
 
 -- no command that the line tells of by 1 is in the set
 abbrev pub Clear : List ℕ → List ℕ → Type 0

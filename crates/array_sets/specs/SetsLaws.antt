@@ -36,6 +36,11 @@ empty-meeting = record {
   tells = λ i l. (λ e j h a b. omega (arith, zeros 24 j), λ f. zeros 24 i);
 }
 
+-- a command in a set conflicts with a command in it: with itself
+pub in-unclear : {rows : List (List ℕ)} → Table rows → (s : List ℕ) (k : ℕ) → k < 24 → In s k
+    → Clear (getD rows k []) s → ⊥
+in-unclear t s k l i f = f k l (t .own k l) i
+
 -- how many are in a set
 
 pub size-most : {s : List ℕ} {n : ℕ} → Size s n → n ≤ length s
@@ -161,7 +166,7 @@ module _ {k : ℕ} {rows : List (List ℕ)} {s : List ℕ} (inside : k < 24) (m 
         none-met i l f = go (at i)
           where
             go : At i → getD s′ i 0 ≡ 0
-            go (own e g) = absurd (f k inside (rw e (t .own k inside)) marked)
+            go (own e g) = absurd (in-unclear t s′ k inside marked (rw e at f))
             go (other n g) =
                 let z : getD s i 0 ≡ 0 = m .tells i l .1 (λ j h a b. f j h a (keeps j h b)) in
                 let o : ¬ (getD (getD rows i []) k 0 ≡ 1) = λ y. f k inside y marked in

@@ -9,13 +9,21 @@ ghost use mathlib.Core.Bool.{true};
 ghost use mathlib.Core.Logic.{_↔_};
 ghost use mathlib.Core.List.{[]};
 ghost use lib.ListN.{getD};
-ghost use Rattle.array_sets.specs.Sets.{Clear, Table, Meeting, Added, empty};
+ghost use Rattle.array_sets.specs.Sets.{In, Clear, Table, Meeting, Added, empty};
 
 // The set of no command.
 pub fn none() -> [u16; 24]
     ensures { λ r. ⌜ r ≡ empty ⌝ }
 {
     [0; 24]
+}
+
+// Whether command k + 1 is in the set.
+pub fn contains(k: usize, set: &[u16; 24]) -> bool
+    requires { ⌜ k < 24 ⌝ }
+    ensures { λ r. ⌜ ((r ≡ true) ↔ In (now (set .entry)) k) ⌝ }
+{
+    32768 <= set[k]
 }
 
 // Whether command k + 1 is independent of every command in the set: its line of conflicts names none of them.
@@ -34,7 +42,7 @@ pub fn add(k: usize, conflicts: &[[u16; 24]; 24], set: &mut [u16; 24])
     requires { ⌜ (k < 24) × Table (now conflicts) × Meeting (now conflicts) (now set) ⌝ }
     ensures { λ r. ⌜ Added k (now (conflicts .entry)) (now (set .entry)) (now (set .exit)) ⌝ }
 {
-    if 32768 <= set[k] {
+    if contains(k, set) {
         return;
     }
     lift(set, &conflicts[k]);

@@ -19,11 +19,11 @@ use Rattle.theory_conjugacy.specs.Settle.{hit, Split, stop, up}
 use Rattle.theory_conjugacy.specs.Settle as Settle
 use Rattle.theory_conjugacy.specs.SettleLaws.{split-unique}
 use Rattle.conjugacy_settling.specs.declared.Halves.{Halves}
-use Rattle.array_sets.specs.Sets.{Clear, Meeting, empty}
+use Rattle.array_sets.specs.Sets.{Clear, Marks, Meeting, empty}
 use Rattle.array_sets.specs.SetsLaws.{empty-meeting}
 use Rattle.array_row.specs.Area.{StartsWith}
 use Rattle.array_row.specs.RowLaws.{appended-start, appended-length, appended-again}
-use Rattle.array_sets.specs.MarksLaws.{Marks, marks-none, marks-add, conflicts-table, clear-meets, unclear-meets}
+use Rattle.array_sets.specs.MarksLaws.{marks-none, marks-add, conflicts-table, clear-meets, unclear-meets}
 use Rattle.conjugacy_settling.specs.Halving.{Place, lineOf, Placed, below, above, Splittable, Halved}
 
 -- where a letter goes

@@ -2,6 +2,7 @@
 // The letters that the rounds cycle are written out one round after the other.
 
 use array_sets::add;
+use array_sets::contains;
 use array_sets::independent;
 use array_sets::none;
 ghost use Prim.Native.Nat.{ℕ, _+_, _≤_};
@@ -24,7 +25,8 @@ pub struct Settled {
     pub rounds: usize,
 }
 
-// One letter goes to its half. If it goes to the upper one its command is raised.
+// One letter goes to its half. If it goes to the upper one its command is raised. A letter of a raised command needs no
+// set test: a command conflicts with itself.
 fn place(
     letter: u8,
     apex: usize,
@@ -41,14 +43,12 @@ fn place(
     let k = (letter % 128) as usize;
     let l = ends.low;
     let h = ends.high;
-    if k != apex {
-        if independent(k - 1, conflicts, raised) {
-            low[l] = letter;
-            return Halves {
-                low: l + 1,
-                high: h,
-            };
-        }
+    if k != apex && !contains(k - 1, raised) && independent(k - 1, conflicts, raised) {
+        low[l] = letter;
+        return Halves {
+            low: l + 1,
+            high: h,
+        };
     }
     high[h] = letter;
     add(k - 1, conflicts, raised);

@@ -17,8 +17,8 @@ use Rattle.spec.specs.Byte.{commandOf}
 use Rattle.spec.specs.Letters.{alphabet}
 use Rattle.spec.specs.Precedence.{leads}
 use Rattle.input_plan.specs.Lettered.{Lettered}
-use Rattle.array_sets.specs.Sets.{Clear, Meeting, Added, empty}
-use Rattle.array_sets.specs.MarksLaws.{Marks, marks-none, marks-add, conflicts-table, clear-meets, unclear-meets}
+use Rattle.array_sets.specs.Sets.{Clear, Marks, Meeting, Added, empty}
+use Rattle.array_sets.specs.MarksLaws.{marks-none, marks-add, conflicts-table, clear-meets, unclear-meets}
 use Rattle.schedule_chains.specs.Following.{Followable, Follow, Followed, apart, reach}
 
 -- what is reached from the letter at place i, before place j: the commands R of the set, and what they reach from m on
