@@ -4,9 +4,8 @@ use native.Mathlib.Omega.{arith}
 use native.Mathlib.Nat.{suc-mul}
 use mathlib.Core.Path.{_≡_, sym, _∙_, ap, subst}
 use mathlib.Core.Bool.{true}
-use mathlib.Core.List.{List, _++_}
-use lib.ListN.{length}
-use lib.Seq.{take-at}
+use mathlib.Core.List.{List}
+use lib.ListN.{length, take}
 use Rattle.theory_words.specs.All.{All, all-map}
 use Rattle.theory_words.specs.FilterLaws.{filter-length}
 use Rattle.spec.specs.Catalogue.{commands}
@@ -18,7 +17,6 @@ use Rattle.spec.specs.Letters.{alphabet}
 use Rattle.spec_laws.specs.LettersLaws.{Commands}
 use Rattle.theory_conjugacy.specs.Part as Part
 use Rattle.theory_conjugacy.specs.Part.{apexes, part, share}
-use Rattle.theory_conjugacy.specs.SettleLaws.{rounded-as-long}
 use Rattle.theory_conjugacy.specs.AscendingLaws.{_∈_}
 use Rattle.theory_conjugacy.specs.CommandLaws.{Occurs, commands-bounded, all-occurs}
 use Rattle.theory_conjugacy.specs.PartLaws.{part-connected, apex-occurs}
@@ -77,37 +75,22 @@ module _ {c : List ℕ} {conflicts : List (List ℕ)} {x : List ℕ} (k : Cyclic
 
 module _ {c : List ℕ} {conflicts : List (List ℕ)} {x labels : List ℕ} {apex : ℕ} {out : List ℕ} {at : ℕ}
     (k : PartOf c conflicts x labels apex out at) {word : List ℕ} (d : word ≡ part (alphabet c) apex x) where
-  pub part-settleable : {low high : List ℕ} → 1024 ≡ length low → 1024 ≡ length high
-      → Settleable c apex word conflicts low high out at
-  part-settleable {low} {high} e f =
+  pub part-settleable : {high : List ℕ} → length x ≤ length high → Settleable c apex word conflicts high out at
+  part-settleable {high} l =
       let y = k .core .cyclic in
-      subst (λ (z : List ℕ). Settleable c apex z conflicts low high out at) (sym d) (record {
-        splittable = record {
-          letters = commands-lettered (commands c) (part (alphabet c) apex x) (y .few) (part-letters y apex);
-          table = y .table;
-          lower = omega (arith, part-short y apex, y .short);
-          upper = omega (arith, part-short y apex, y .short);
-        };
+      subst (λ (z : List ℕ). Settleable c apex z conflicts high out at) (sym d) (record {
+        letters = commands-lettered (commands c) (part (alphabet c) apex x) (y .few) (part-letters y apex);
+        table = y .table;
         connected = part-connected (alphabet c) apex x;
         apex-occurs = apex-occurs (alphabet c) x (k .apical);
+        upper = omega (arith, part-short y apex);
         room = omega (arith, k .room, apex-room y (k .apical));
       })
 
-  -- the settled word stands where the part stood, and whatever follows it
-  pub part-settled : {n e m : ℕ} {word′ out′ : List ℕ} (t : List ℕ) → n ≡ length word
-      → Ended c apex word word′ out out′ at (record { end = e; rounds = m })
-      → SettledOf c x apex (word′ ++ t) out out′ at (record { letters = n; cycled = e; rounds = m })
-  part-settled {n} {e} {m} {word′} {out′} t f o =
-      let p = part (alphabet c) apex x in
-      let h : Ended c apex p word′ out out′ at (record { end = e; rounds = m }) =
-      subst (λ (z : List ℕ). Ended c apex z word′ out out′ at (record { end = e; rounds = m })) d o in
-      let g : n ≡ length p = f ∙ ap length d in
-      let l : length word′ ≡ length p = rounded-as-long (alphabet c) apex (h .rounded) in
-      record {
-        many = g;
-        ended = subst (λ (z : List ℕ). Ended c apex p z out out′ at (record { end = e; rounds = m }))
-            (sym (take-at word′ t n (l ∙ sym g))) h;
-      }
+  pub part-settled : {n e m : ℕ} {word′ out′ : List ℕ} → n ≡ length word
+      → Ended c apex word (take (length word) word′) out out′ at (record { end = e; rounds = m })
+      → SettledOf c x apex word′ out out′ at (record { letters = n; cycled = e; rounds = m })
+  part-settled f o = record { many = f ∙ ap length d; ended = rw (f, ← d) o }
 
 -- the rounds that settling took are those that the part needs
 pub settled-rounds : {c : List ℕ} {conflicts : List (List ℕ)} {x labels : List ℕ} {apex : ℕ}

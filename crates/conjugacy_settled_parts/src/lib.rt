@@ -33,15 +33,13 @@ pub fn settle_part(
         (now (cycled .entry)) at
         → SettledOf c (now (core .entry)) apex (now (word .exit)) (now (cycled .entry)) (now (cycled .exit)) at r) ⌝ }
 {
-    let mut low = sheet();
-    let mut high = sheet();
-    let n = part(core, labels, apex, word);
+    let mut letters = sheet();
+    let n = part(core, labels, apex, &mut letters);
     let settled = settle(
-        &mut word[..n],
+        &mut letters[..n],
         apex as usize,
         conflicts,
-        &mut low,
-        &mut high,
+        word,
         cycled,
         at,
     );

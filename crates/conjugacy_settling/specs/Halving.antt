@@ -9,8 +9,9 @@ use Rattle.input_chains.specs.Conflicts.{Conflicts}
 use Rattle.spec.specs.Byte.{commandOf}
 use Rattle.input_plan.specs.Lettered.{Lettered}
 use Rattle.spec.specs.Letters.{alphabet}
-use Rattle.theory_conjugacy.specs.Settle.{split}
-use Rattle.array_sets.specs.Sets.{Clear, Table, Meeting, Added}
+use Rattle.theory_conjugacy.specs.Settle.{raise, Split}
+use Rattle.array_sets.specs.Sets.{Clear, Table, Marks, Meeting, Added}
+use Rattle.array_row.specs.Row.{Appended}
 use Rattle.array_row.specs.Area.{StartsWith}
 use Rattle.conjugacy_settling.specs.declared.Halves.{Halves}
 
@@ -37,14 +38,23 @@ pub data Placed (letter apex : ℕ) (conflicts : List (List ℕ)) (raised low hi
       → Placed letter apex conflicts raised low high ends raised′ low (set high (ends .high) letter)
       (record { low = ends .low; high = ends .high + 1 })
 
--- a word of letters, the conflicts of catalogue c, and room for the word in both halves
-pub record Splittable (c word : List ℕ) (conflicts : List (List ℕ)) (low high : List ℕ) : Type 0 where
+-- a word of letters, the conflicts of catalogue c, the set of the raised commands R, and room for the word behind the
+-- first `from` bytes of `high`
+pub record Splittable (c R word : List ℕ) (conflicts : List (List ℕ)) (raised high : List ℕ) (from : ℕ) : Type 0 where
   pub letters : All Lettered word
   pub table : Conflicts c conflicts
-  pub lower : length word ≤ length low
-  pub upper : length word ≤ length high
+  pub meeting : Meeting conflicts raised
+  pub marks : Marks raised R
+  pub room : from + length word ≤ length high
 
--- the halves of the word are in low and high, and past them these are as they were
-pub record Halved (c : List ℕ) (apex : ℕ) (word low high low′ high′ : List ℕ) (r : Halves) : Type 0 where
-  pub lower : StartsWith (split (alphabet c) apex [] word .0) low low′ (r .low)
-  pub upper : StartsWith (split (alphabet c) apex [] word .1) high high′ (r .high)
+-- the word is split as p and q: it starts with p, behind the first `from` bytes of `high` stands q, and the commands of
+-- q are in the set too
+pub record Halved (c : List ℕ) (apex : ℕ) (R word : List ℕ) (conflicts : List (List ℕ)) (high : List ℕ) (from : ℕ)
+    (word′ raised′ high′ : List ℕ) (r : Halves) : Type 0 where
+  pub p : List ℕ
+  pub q : List ℕ
+  pub halves : Split (alphabet c) apex R word p q
+  pub lower : StartsWith p word word′ (r .low)
+  pub upper : Appended high from q high′ (r .high)
+  pub meeting : Meeting conflicts raised′
+  pub marks : Marks raised′ (raise (alphabet c) R q)

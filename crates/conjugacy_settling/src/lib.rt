@@ -1,19 +1,18 @@
-// Settling a word on its apex, in place: the manual's rounds, each a split of the word and an exchange of its halves.
-// The letters that the rounds cycle are written out one round after the other.
+// Settling a word on its apex: the manual's rounds, each a split of the word whose upper half then comes before the
+// lower one. The letters that the rounds cycle are written out one round after the other.
 
+use array_row::append;
 use array_sets::add;
 use array_sets::contains;
 use array_sets::independent;
 use array_sets::none;
-ghost use Prim.Native.Nat.{ℕ, _+_, _≤_};
-ghost use mathlib.Core.Path.{_≡_};
+ghost use Prim.Native.Nat.{ℕ};
 ghost use mathlib.Core.List.{List};
-ghost use lib.ListN.{length};
-ghost use lib.Seq.{paste};
+ghost use lib.ListN.{length, take};
 ghost use Rattle.conjugacy_settling.specs.Halving.{Place, Placed, Splittable, Halved};
-ghost use Rattle.conjugacy_settling.specs.Settling.{Exchange, Exchanged, Settleable, Ended};
+ghost use Rattle.conjugacy_settling.specs.Settling.{Settleable, Ended};
 
-// How many letters each half of a split has.
+// Where the halves of a split end: the lower one in the word, the upper one in high.
 struct Halves {
     low: usize,
     high: usize,
@@ -58,89 +57,69 @@ fn place(
     }
 }
 
-// The halves of a word, in one scan: upper are the apex letters and those that must stay after one.
+// The halves of a word, in one scan: upper are the apex letters and those that must stay after one or after a raised
+// command. The lower half comes to stand at the start of the word, and the upper one in high behind what stands there.
 fn split(
-    word: &[u8],
+    word: &mut [u8],
     apex: usize,
     conflicts: &[[u16; 24]; 24],
-    low: &mut [u8],
+    raised: &mut [u16; 24],
     high: &mut [u8],
+    from: usize,
 ) -> Halves
-    requires { ⌜ ((c : List ℕ) × Splittable c (now word) (now conflicts) (now low) (now high)) ⌝ }
-    ensures { λ r. ⌜ ((c : List ℕ)
-        → Splittable c (now (word .entry)) (now (conflicts .entry)) (now (low .entry)) (now (high .entry))
-        → Halved c apex (now (word .entry)) (now (low .entry)) (now (high .entry)) (now (low .exit)) (now (high .exit))
-        r) ⌝ }
+    requires { ⌜ ((c : List ℕ) × (R : List ℕ)
+        × Splittable c R (now word) (now conflicts) (now raised) (now high) from) ⌝ }
+    ensures { λ r. ⌜ ((c R : List ℕ)
+        → Splittable c R (now (word .entry)) (now (conflicts .entry)) (now (raised .entry)) (now (high .entry)) from
+        → Halved c apex R (now (word .entry)) (now (conflicts .entry)) (now (high .entry)) from (now (word .exit))
+        (now (raised .exit)) (now (high .exit)) r) ⌝ }
 {
-    let mut raised = none();
-    let mut ends = Halves { low: 0, high: 0 };
+    let mut ends = Halves { low: 0, high: from };
     let mut i = 0;
     while i < word.len() {
-        ends = place(word[i], apex, conflicts, &mut raised, low, high, ends);
+        ends = place(word[i], apex, conflicts, raised, word, high, ends);
         i += 1;
     }
     ends
 }
 
-// The first bytes of one slice, so many, go to a place in another.
-fn copy(from: &[u8], count: usize, to: &mut [u8], at: usize)
-    requires { ⌜ (count ≤ length (now from)) × (at + count ≤ length (now to)) ⌝ }
-    ensures { λ r. ⌜ now (to .exit) ≡ paste (now (to .entry)) at (now (from .entry)) count ⌝ }
-{
-    let mut i = 0;
-    while i < count {
-        to[at + i] = from[i];
-        i += 1;
-    }
-}
-
-// One round: the halves, so many letters of low and high, exchange their places in the word, and the lower one is also
-// written at its place in cycled.
-fn round(
-    word: &mut [u8],
-    low: &[u8],
-    lower: usize,
-    high: &[u8],
-    upper: usize,
-    cycled: &mut [u8],
-    at: usize,
-)
-    requires { ⌜ Exchange (now word) (now low) lower (now high) upper (now cycled) at ⌝ }
-    ensures { λ r. ⌜ Exchanged (now (word .exit)) (now (low .entry)) lower (now (high .entry)) upper
-        (now (cycled .entry)) (now (cycled .exit)) at ⌝ }
-{
-    copy(low, lower, cycled, at);
-    copy(high, upper, word, 0);
-    copy(low, lower, word, upper);
-}
-
-// The connected word settled on its apex, and the letters that the rounds cycle, from a place in cycled on.
+// The connected word settled on its apex, at the start of high, and the letters that the rounds cycle, from a place in
+// cycled on. A letter that has gone up stays up, so each round looks only at the letters that were low in the last one.
+// They stand at the start of word.
 pub fn settle(
     word: &mut [u8],
     apex: usize,
     conflicts: &[[u16; 24]; 24],
-    low: &mut [u8],
     high: &mut [u8],
     cycled: &mut [u8],
     at: usize,
 ) -> Settled
-    requires { ⌜ ((c : List ℕ)
-        × Settleable c apex (now word) (now conflicts) (now low) (now high) (now cycled) at) ⌝ }
+    requires { ⌜ ((c : List ℕ) × Settleable c apex (now word) (now conflicts) (now high) (now cycled) at) ⌝ }
     ensures { λ r. ⌜ ((c : List ℕ)
-        → Settleable c apex (now (word .entry)) (now (conflicts .entry)) (now (low .entry)) (now (high .entry))
-        (now (cycled .entry)) at
-        → Ended c apex (now (word .entry)) (now (word .exit)) (now (cycled .entry)) (now (cycled .exit)) at r) ⌝ }
+        → Settleable c apex (now (word .entry)) (now (conflicts .entry)) (now (high .entry)) (now (cycled .entry)) at
+        → Ended c apex (now (word .entry)) (take (length (now (word .entry))) (now (high .exit)))
+        (now (cycled .entry)) (now (cycled .exit)) at r) ⌝ }
 {
+    let mut raised = none();
+    let mut lower = word.len();
+    let mut upper = 0;
     let mut end = at;
     let mut rounds = 0;
     loop {
-        let ends = split(word, apex, conflicts, low, high);
-        let lower = ends.low;
+        let ends = split(
+            &mut word[..lower],
+            apex,
+            conflicts,
+            &mut raised,
+            high,
+            upper,
+        );
+        lower = ends.low;
         if lower == 0 {
             return Settled { end, rounds };
         }
-        round(word, low, lower, high, ends.high, cycled, end);
-        end += lower;
+        upper = ends.high;
+        end = append(cycled, end, &word[..lower]);
         rounds += 1;
     }
 }

@@ -11,6 +11,11 @@ use Rattle.theory_words.specs.Alphabet.{Alphabet, Word}
 use Rattle.theory_words.specs.Filter.{keepIf}
 use Rattle.theory_words.specs.Normal.{meets, lex}
 
+-- the commands raised once the letters of a word have gone up too
+unfoldable pub raise : (Γ : Alphabet) → List ℕ → Word Γ → List ℕ
+raise Γ R [] = R
+raise Γ R (b ∷ q) = raise Γ (Γ .cmd b ∷ R) q
+
 module _ (Γ : Alphabet) (m : ℕ) where
   open Alphabet Γ using (Letter, cmd)
 

@@ -1,6 +1,6 @@
 -- Laws of splitting and settling: the split is one of the word up to swaps, its second half is a pyramid, the functions
 -- compute the relations, and a settled word is reached by cyclings.
-use Prim.Native.Nat.{ℕ, zero, suc, _≤_}
+use Prim.Native.Nat.{ℕ, zero, suc, _+_, _≤_}
 use native.Mathlib.Omega.{arith}
 use mathlib.Core.Path.{_≡_, refl, sym, _∙_, ap}
 use mathlib.Core.Bool.{Bool, true, false, true≢false, _||_}
@@ -19,8 +19,13 @@ use Rattle.theory_words.specs.Filter.{keepIf}
 use Rattle.theory_words.specs.Normal.{meets}
 use Rattle.theory_conjugacy.specs.Turn.{Turns, same, also}
 use Rattle.theory_conjugacy.specs.TurnLaws.{turns-refl, turns-rotate, turns-length}
-use Rattle.theory_conjugacy.specs.Settle.{hit, put, split, settled, settled-step, cycled, cycled-step}
+use Rattle.theory_conjugacy.specs.Settle.{raise, hit, put, split, settled, settled-step, cycled, cycled-step}
 use Rattle.theory_conjugacy.specs.Settle.{Split, stop, up, low, Rounded, quiet, round}
+
+pub raise-append : (Γ : Alphabet) (R : List ℕ) (p q : Word Γ) → raise Γ R (p ++ q) ≡ raise Γ (raise Γ R p) q
+unfolding raise
+raise-append Γ R [] q = refl
+raise-append Γ R (b ∷ p) q = raise-append Γ (Γ .cmd b ∷ R) p q
 
 -- three tests, the first two in either order
 pub or-swap : (a b c : Bool) → (a || (b || c)) ≡ (b || (a || c))
@@ -94,6 +99,17 @@ module _ (Γ : Alphabet) (m : ℕ) where
   split-~ {p = p} (up {b = b} {q = q} h s) = next (cons (split-~ s)) (apart-pass Γ b p (split-apart b s) q)
   split-~ (low h s) = cons (split-~ s)
 
+  pub split-length : {R : List ℕ} {w p q : Word Γ} → Split Γ m R w p q → length p + length q ≡ length w
+  split-length stop = refl
+  split-length (up h s) = omega (arith, split-length s)
+  split-length (low h s) = omega (arith, split-length s)
+
+  -- what holds for each letter of the word holds for each of the first half
+  pub split-all : (P : Letter → Type 0) {R : List ℕ} {w p q : Word Γ} → Split Γ m R w p q → All P w → All P p
+  split-all P stop h = tt
+  split-all P (up i s) h = split-all P s (h .1)
+  split-all P (low i s) h = (h .0, split-all P s (h .1))
+
   -- a letter that can come first in the second half is hit
   pub split-high : {R : List ℕ} {w p q : Word Γ} {d : Letter} → Split Γ m R w p q → First Γ d q → hit Γ m R d ≡ true
   split-high stop (r, o) = elim o [ ]
@@ -111,6 +127,20 @@ module _ (Γ : Alphabet) (m : ℕ) where
   split-upper stop = stop
   split-upper (up h s) = up h (split-upper s)
   split-upper (low h s) = split-upper s
+
+  -- what follows is split with the commands raised before it. So of the second half and then the first, the next round
+  -- has only the first to split.
+  pub split-append : {R : List ℕ} {w p q v x y : Word Γ} → Split Γ m R w p q → Split Γ m (raise Γ R q) v x y
+      → Split Γ m R (w ++ v) (p ++ x) (q ++ y)
+  unfolding raise
+  split-append stop t = t
+  split-append (up h s) t = up h (split-append s t)
+  split-append (low h s) t = low h (split-append s t)
+
+  -- where no letter is low, the second half is the word
+  pub split-whole : {R : List ℕ} {w q : Word Γ} → Split Γ m R w [] q → q ≡ w
+  split-whole stop = refl
+  split-whole (up {b = b} h s) = ap (λ (x : Word Γ). b ∷ x) (split-whole s)
 
   -- the function computes the relation, which has one result
 
@@ -132,6 +162,12 @@ module _ (Γ : Alphabet) (m : ℕ) where
   split-unique (up {b = b} h s) = let (e, f) = split-unique s in (rw h e, rw h (ap (λ (x : Word Γ). b ∷ x) f))
   split-unique (low {b = b} h s) = let (e, f) = split-unique s in (rw h (ap (λ (x : Word Γ). b ∷ x) e), rw h f)
 
+  split-same : {R : List ℕ} {w p q x y : Word Γ} → Split Γ m R w p q → Split Γ m R w x y → (p ≡ x) × (q ≡ y)
+  split-same s t =
+      let (e, f) = split-unique s in
+      let (g, h) = split-unique t in
+      (sym e ∙ g, sym f ∙ h)
+
   -- rounds
 
   -- what the functions compute, given rounds enough
@@ -148,16 +184,15 @@ module _ (Γ : Alphabet) (m : ℕ) where
 
   -- none where nothing is low, and else one and more behind it
 
-  pub rounded-none : {n : ℕ} {w g r : Word Γ} → Rounded Γ m n w g r → split Γ m [] w .0 ≡ []
-      → (n ≡ 0) × (g ≡ []) × (r ≡ w)
-  rounded-none (quiet s) e = (refl, refl, refl)
-  rounded-none (round s o) e = absurd (omega (arith, ap length (sym (split-unique s .0) ∙ e)))
+  pub rounded-none : {n : ℕ} {w g r q : Word Γ} → Rounded Γ m n w g r → Split Γ m [] w [] q
+      → (n ≡ 0) × (g ≡ []) × (r ≡ q)
+  rounded-none (quiet s) t = (refl, refl, sym (split-whole t))
+  rounded-none (round s o) t = absurd (omega (arith, ap length (split-same s t .0)))
 
-  pub rounded-next : {n : ℕ} {w g r : Word Γ} → Rounded Γ m n w g r → ¬ (split Γ m [] w .0 ≡ [])
-      → (let s = split Γ m [] w in
-      (k : ℕ) × (h : Word Γ) × (n ≡ suc k) × (g ≡ s .0 ++ h) × Rounded Γ m k (s .1 ++ s .0) h r)
-  rounded-next (quiet s) n = absurd (n (split-unique s .0))
-  rounded-next (round {n = k} {g = h} s o) n = let (e, f) = split-unique s in rw (e, f) (k, h, refl, refl, o)
+  pub rounded-next : {n : ℕ} {w g r p q : Word Γ} → Rounded Γ m n w g r → Split Γ m [] w p q → ¬ (p ≡ [])
+      → (k : ℕ) × (h : Word Γ) × (n ≡ suc k) × (g ≡ p ++ h) × Rounded Γ m k (q ++ p) h r
+  rounded-next (quiet s) t n = absurd (n (split-same t s .0))
+  rounded-next (round {n = k} {g = h} s o) t n = let (e, f) = split-same t s in rw (e, f) (k, h, refl, refl, o)
 
   pub rounded-turns : {n : ℕ} {w g r : Word Γ} → Rounded Γ m n w g r → Turns Γ w r
   rounded-turns {w = w} (quiet s) = turns-refl Γ w
