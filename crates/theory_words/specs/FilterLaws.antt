@@ -3,7 +3,7 @@ use Prim.Native.Nat.{suc, _≤_}
 use mathlib.Core.Path.{_≡_, refl, sym, _∙_, ap}
 use mathlib.Core.Bool.{Bool, true, false}
 use mathlib.Core.Logic.{_⊎_, inl, inr}
-use mathlib.Core.List.{List, [], _∷_, _++_, List·Memᴰ, List·Memᴰ·head, List·Memᴰ·tail}
+use mathlib.Core.List.{List, [], _∷_, _++_, reverse, map-id, List·Memᴰ, List·Memᴰ·head, List·Memᴰ·tail}
 use lib.ListN.{length}
 use native.Mathlib.Omega.{arith}
 use Rattle.theory_words.specs.All.{All, all-mem, all-by}
@@ -80,6 +80,12 @@ module _ {A : Type 0} where
     filter-undo g h (a ∷ u) v =
         filter-undo g h u (g a ∷ v)
         ∙ rw (h a) (keepIf-undo g (f a) a (filter f u) (filter f v))
+
+    pub filter-reverse : (w : List A) → filter f (reverse w) ≡ reverse (filter f w)
+    unfolding filter
+    filter-reverse w =
+        ap (λ (u : List A). filter f (reverse u)) (sym (map-id w)) ∙ filter-undo (λ a. a) (λ a. refl) w []
+        ∙ ap reverse (map-id (filter f w))
 
     -- what is left passes, and has what every element had
     pub filter-passes : (w : List A) → All (λ a. f a ≡ true) (filter f w)

@@ -18,3 +18,5 @@ pub mod ReduceLaws
 pub mod NormalLaws
 pub mod StackLaws
 pub mod LetterLaws
+pub mod Trim
+pub mod TrimLaws
