@@ -3,7 +3,7 @@
 
 use array_row::sheet;
 use conjugacy_of_parts::Outcome;
-use piling_form::core_of;
+use piling_core_letters::core_of;
 ghost use Prim.Native.Nat.{ℕ};
 ghost use mathlib.Core.List.{List};
 ghost use Rattle.conjugacy_by_cores.specs.Join.{Plans, Cores, PlansRoom, PlansOutcome};
@@ -66,9 +66,9 @@ pub fn join_plans(
     let mut lead2 = sheet();
     let two = core_of(w, conflicts, &mut core2, &mut lead2);
     join_by_cores(
-        &core1[..one.form],
+        &core1[..one.core],
         &lead1[..one.lead],
-        &core2[..two.form],
+        &core2[..two.core],
         &lead2[..two.lead],
         commands,
         conflicts,

@@ -4,10 +4,9 @@ use mathlib.Core.List.{List}
 use native.Mathlib.Omega.{arith}
 use lib.ListN.{take}
 use borrow.Author.Needs.{needs}
-use Rattle.array_row.specs.AreaLaws.{starts-fits, starts-count}
-use Rattle.piling_form.specs.Coring.{CoreOf}
+use Rattle.piling_core_letters.specs.CoreLetters.{CoreLetters}
 use Rattle.conjugacy_by_cores.specs.Join.{Plans, Cores}
-use Rattle.conjugacy_of_plans.specs.CoresLaws.{core-and-lead, lead-count, lead-fits}
+use Rattle.conjugacy_of_plans.specs.CoresLaws.{core-and-lead, core-count, lead-count}
 use Rattle.conjugacy_of_plans.proofs.join_plans.Statement.{statement}
 use Rattle.conjugacy_of_plans.proofs.join_plans.Tie as tie
 
@@ -47,21 +46,19 @@ Asked o k = let s = start o .args in Plans k (s .conflicts .now) (s .v .now) (s 
 -- the cores, and the letters taken off
 
 one : (o : tie.After-core-of2) (k : List ℕ) → Asked o k
-    → (let r = first o .core-of in CoreOf k (start o .args .v .now)
-    (first o .before .before .before .before .sheet .result) (first o .before .before .before .sheet2 .result)
-    (r .last .1 .1 .0) (r .last .1 .1 .1 .0) (r .result .form) (r .result .lead))
+    → (let r = first o .core-of in CoreLetters k (start o .args .v .now)
+    (r .last .1 .1 .0) (r .last .1 .1 .1 .0) (r .result .core) (r .result .lead))
 one o k p = first o .core-of .ensures k (p .first)
 
 two : (o : tie.After-core-of2) (k : List ℕ) → Asked o k
-    → (let r = o .core-of2 in CoreOf k (start o .args .w .now)
-    (o .before .before .before .before .sheet3 .result) (o .before .before .before .sheet4 .result)
-    (r .last .1 .1 .0) (r .last .1 .1 .1 .0) (r .result .form) (r .result .lead))
+    → (let r = o .core-of2 in CoreLetters k (start o .args .w .now)
+    (r .last .1 .1 .0) (r .last .1 .1 .1 .0) (r .result .core) (r .result .lead))
 two o k p = o .core-of2 .ensures k (p .second)
 
 cores : (o : tie.After-core-of2) (k : List ℕ) → Asked o k
     → (let s = start o .args in let r = first o .core-of in let t = o .core-of2 in
-    Cores k (s .conflicts .now) (s .v .now) (s .w .now) (take (r .result .form) (r .last .1 .1 .0))
-    (take (r .result .lead) (r .last .1 .1 .1 .0)) (take (t .result .form) (t .last .1 .1 .0))
+    Cores k (s .conflicts .now) (s .v .now) (s .w .now) (take (r .result .core) (r .last .1 .1 .0))
+    (take (r .result .lead) (r .last .1 .1 .1 .0)) (take (t .result .core) (t .last .1 .1 .0))
     (take (t .result .lead) (t .last .1 .1 .1 .0)))
 cores o k p = record { plans = p; first = core-and-lead (one o k p); second = core-and-lead (two o k p) }
 
@@ -93,17 +90,17 @@ core-of-requires-2 c κs =
 array-share-prefix-core1 : tie.Need-array-share-prefix-core1
 array-share-prefix-core1 c =
     let o = c .before .before in
-    starts-fits (one o (start o .pre .0) (start o .pre .1) .form)
+    one o (start o .pre .0) (start o .pre .1) .within
 
 slice-aggregate-join-by-cores : tie.Need-slice-aggregate-join-by-cores
 slice-aggregate-join-by-cores c =
     let o = c .before .before .before in
-    starts-count (one o (start o .pre .0) (start o .pre .1) .form)
+    core-count (one o (start o .pre .0) (start o .pre .1))
 
 array-share-prefix-lead1 : tie.Need-array-share-prefix-lead1
 array-share-prefix-lead1 c =
     let o = c .before .before .before in
-    lead-fits (one o (start o .pre .0) (start o .pre .1))
+    one o (start o .pre .0) (start o .pre .1) .fits
 
 slice-aggregate-join-by-cores-2 : tie.Need-slice-aggregate-join-by-cores-2
 slice-aggregate-join-by-cores-2 c =
@@ -113,17 +110,17 @@ slice-aggregate-join-by-cores-2 c =
 array-share-prefix-core2 : tie.Need-array-share-prefix-core2
 array-share-prefix-core2 c =
     let o = c .before .before .before .before in
-    starts-fits (two o (start o .pre .0) (start o .pre .1) .form)
+    two o (start o .pre .0) (start o .pre .1) .within
 
 slice-aggregate-join-by-cores-3 : tie.Need-slice-aggregate-join-by-cores-3
 slice-aggregate-join-by-cores-3 c =
     let o = after-core-of2-from-core23 c in
-    starts-count (two o (start o .pre .0) (start o .pre .1) .form)
+    core-count (two o (start o .pre .0) (start o .pre .1))
 
 array-share-prefix-lead2 : tie.Need-array-share-prefix-lead2
 array-share-prefix-lead2 c =
     let o = after-core-of2-from-core23 c in
-    lead-fits (two o (start o .pre .0) (start o .pre .1))
+    two o (start o .pre .0) (start o .pre .1) .fits
 
 slice-aggregate-join-by-cores-4 : tie.Need-slice-aggregate-join-by-cores-4
 slice-aggregate-join-by-cores-4 c =

@@ -1,0 +1,2 @@
+pub mod CoreLetters
+pub mod CoreLettersLaws
