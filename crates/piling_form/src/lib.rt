@@ -9,80 +9,12 @@ ghost use Rattle.array_row.specs.Area.{StartsWith};
 ghost use Rattle.input_checks.specs.Passed.{Passed};
 ghost use Rattle.spec.specs.Letters.{normalForm};
 ghost use Rattle.piling_pairs.specs.Pairing.{PairsOf};
-ghost use Rattle.piling_core.specs.Peeling.{Peelable};
-ghost use Rattle.piling_form.specs.Coring.{form, Room, Remains, CoreOf, FormOf};
+ghost use Rattle.piling_form.specs.Coring.{form, Whole, Remains};
 
-// The length of the form, the number of letters taken off in front, and that of the pairs that cancelled before.
+// The length of the form, and the number of the pairs that cancelled.
 pub struct Formed {
     pub form: usize,
-    pub lead: usize,
     pub pairs: usize,
-}
-
-// Takes pairs off, as `peel` does, where the core is wanted; else nothing changes.
-fn peel_if(
-    rows: &[[u8; 1024]; 24],
-    heights: &mut [u16; 24],
-    at: &mut [u16; 24],
-    conflicts: &[[u16; 24]; 24],
-    lead: &mut [u8],
-    cored: bool,
-) -> usize
-    requires { ⌜ ((c : List ℕ) × (x : List ℕ)
-        × Peelable c (now conflicts) (now rows) (now heights) (now at) x (now lead)) ⌝ }
-    ensures { λ r.
-        ⌜ ((c x : List ℕ)
-        → Peelable c (now (conflicts .entry)) (now (rows .entry)) (now (heights .entry)) (now (at .entry)) x
-        (now (lead .entry))
-        → (z : List ℕ) × Remains c (now (rows .entry)) x (now (lead .entry)) (now (heights .exit))
-        (now (at .exit)) cored (now (lead .exit)) r z) ⌝ }
-{
-    if cored {
-        return piling_core::peel(rows, heights, at, conflicts, lead);
-    }
-    0
-}
-
-// Writes the normal form of plan, or that of its core, at the start of area, and the pairs of plan at the start of
-// pairs; with the core, at the start of lead, the letters that were taken off in front.
-fn form_of(
-    plan: &[u8],
-    conflicts: &[[u16; 24]; 24],
-    area: &mut [u8],
-    lead: &mut [u8],
-    pairs: &mut [u16],
-    cored: bool,
-) -> Formed
-    requires { ⌜ ((c : List ℕ) × Passed c (now conflicts) (now plan) × Room (now plan) (now area) (now lead)
-        × (length (now plan) ≤ length (now pairs))) ⌝ }
-    ensures formed { λ r. ⌜ ((c : List ℕ) → Passed c (now (conflicts .entry)) (now (plan .entry))
-        → FormOf c (now (plan .entry)) (now (area .entry)) (now (lead .entry)) cored (now (area .exit))
-        (now (lead .exit)) (r .form) (r .lead)) ⌝ }
-    ensures paired { λ r. ⌜ ((c : List ℕ) → Passed c (now (conflicts .entry)) (now (plan .entry))
-        → PairsOf c (now (plan .entry)) (now (pairs .entry)) (now (pairs .exit)) (r .pairs)) ⌝ }
-{
-    let mut rows = piling_stacks::blank_rows();
-    let mut heights = array_counts::blank_heights();
-    let piled = piling_pairs::pile(plan, conflicts, &mut rows, &mut heights, pairs);
-    let mut bottoms = array_counts::blank_heights();
-    let taken = peel_if(&rows, &mut heights, &mut bottoms, conflicts, lead, cored);
-    let left = piling_read::read_off(rows, heights, bottoms, conflicts, area);
-    Formed {
-        form: left,
-        lead: taken,
-        pairs: piled.pairs,
-    }
-}
-
-// The core of plan with the letters taken off in front, for a caller who does not hand out pairs.
-pub fn core_of(plan: &[u8], conflicts: &[[u16; 24]; 24], area: &mut [u8], lead: &mut [u8]) -> Formed
-    requires { ⌜ ((c : List ℕ) × Passed c (now conflicts) (now plan) × Room (now plan) (now area) (now lead)) ⌝ }
-    ensures { λ r. ⌜ ((c : List ℕ) → Passed c (now (conflicts .entry)) (now (plan .entry))
-        → CoreOf c (now (plan .entry)) (now (area .entry)) (now (lead .entry)) (now (area .exit))
-        (now (lead .exit)) (r .form) (r .lead)) ⌝ }
-{
-    let mut pairs = piling_pairs::blank_places();
-    form_of(plan, conflicts, area, lead, &mut pairs, true)
 }
 
 // A row for the letters taken off the longest plan.
@@ -92,7 +24,27 @@ fn blank_lead() -> [u8; 512]
     [0; 512]
 }
 
-// The same for a caller who does not want the letters taken off.
+// Takes pairs off, as `peel` does, where the core is wanted; else nothing changes.
+fn peel_if(
+    rows: &[[u8; 1024]; 24],
+    heights: &mut [u16; 24],
+    at: &mut [u16; 24],
+    conflicts: &[[u16; 24]; 24],
+    cored: bool,
+)
+    requires { ⌜ ((c : List ℕ) × (x : List ℕ) × Whole c (now conflicts) (now rows) (now heights) (now at) x) ⌝ }
+    ensures { λ r. ⌜ ((c x : List ℕ)
+        → Whole c (now (conflicts .entry)) (now (rows .entry)) (now (heights .entry)) (now (at .entry)) x
+        → (z : List ℕ) × Remains c (now (rows .entry)) x (now (heights .exit)) (now (at .exit)) cored z) ⌝ }
+{
+    if cored {
+        let mut lead = blank_lead();
+        piling_core::peel(rows, heights, at, conflicts, &mut lead);
+    }
+}
+
+// Writes the normal form of plan, or that of its core, at the start of area, and the pairs of plan at the start of
+// pairs.
 pub fn form(
     plan: &[u8],
     conflicts: &[[u16; 24]; 24],
@@ -107,8 +59,16 @@ pub fn form(
     ensures paired { λ r. ⌜ ((c : List ℕ) → Passed c (now (conflicts .entry)) (now (plan .entry))
         → PairsOf c (now (plan .entry)) (now (pairs .entry)) (now (pairs .exit)) (r .pairs)) ⌝ }
 {
-    let mut lead = blank_lead();
-    form_of(plan, conflicts, area, &mut lead, pairs, cored)
+    let mut rows = piling_stacks::blank_rows();
+    let mut heights = array_counts::blank_heights();
+    let piled = piling_pairs::pile(plan, conflicts, &mut rows, &mut heights, pairs);
+    let mut bottoms = array_counts::blank_heights();
+    peel_if(&rows, &mut heights, &mut bottoms, conflicts, cored);
+    let left = piling_read::read_off(rows, heights, bottoms, conflicts, area);
+    Formed {
+        form: left,
+        pairs: piled.pairs,
+    }
 }
 
 // The normal form of plan for a caller who does not hand out pairs, and its length.
