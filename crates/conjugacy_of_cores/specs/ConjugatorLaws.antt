@@ -1,4 +1,5 @@
--- Conjugators from one core to another: the empty word where they are the same, and else the lead-ins of their parts.
+-- Conjugators from one core to another: the empty word where they are equal up to swaps, and else the lead-ins of their
+-- parts.
 use Prim.Native.Nat.{ℕ, zero, suc, _+_, _*_, _≤_}
 use native.Mathlib.Omega.{arith}
 use native.Mathlib.Nat.{mul-le-mul-right}
@@ -8,7 +9,9 @@ use mathlib.Core.List.{List, [], append-nil}
 use lib.ListN.{length, take}
 use Rattle.theory_words.specs.All.{All}
 use Rattle.theory_words.specs.TraceLaws.{~-length}
-use Rattle.theory_words.specs.GroupLaws.{≈-of-≡, conj-nil}
+use Rattle.theory_words.specs.Trace as Trace
+use Rattle.theory_words.specs.Group.{then}
+use Rattle.theory_words.specs.GroupLaws.{≈-of-≡, ~→≈, conj-nil}
 use Rattle.theory_conjugacy.specs.Part.{apexes}
 use Rattle.theory_conjugacy.specs.CommandLaws.{all-occurs}
 use Rattle.theory_conjugacy.specs.PartLaws.{apexes-~}
@@ -36,12 +39,12 @@ module _ {c : List ℕ} {conflicts : List (List ℕ)} {x : List ℕ} (k : Cyclic
   range : All (λ a. (1 ≤ commandOf a) × (commandOf a ≤ commands c)) x
   range = commands-range (commands c) x (k .few) (k .letters)
 
-  pub cores-same : {y row row′ : List ℕ} {at : ℕ} → x ≡ y → take at row′ ≡ take at row
+  pub cores-same : {y row row′ : List ℕ} {at : ℕ} → Trace._~_ (alphabet c) x y → take at row′ ≡ take at row
       → CoresJoined c x y row at row′ at
   cores-same {row = row} {at = at} e f = record {
     word = [];
     conjugator = record {
-      conjugates = ≈-of-≡ (alphabet c) (conj-nil (alphabet c) x ∙ e);
+      conjugates = then (≈-of-≡ (alphabet c) (conj-nil (alphabet c) x)) (~→≈ (alphabet c) e);
       letters = tt;
       short = omega (arith, none-short (commands c) (length x) (none-occur (alphabet c) (commands c) x range));
     };

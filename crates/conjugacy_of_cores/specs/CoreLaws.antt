@@ -1,11 +1,11 @@
 -- Two cores: where other commands occur they are apart, and where the same occur their parts decide.
 use Prim.Native.Nat.{ℕ, max}
-use mathlib.Core.Path.{_≡_, refl, _∙_, ap, subst}
+use mathlib.Core.Path.{_≡_, refl, _∙_, ap}
 use mathlib.Core.Bool.{Bool, true, false, _&&_}
 use mathlib.Core.List.{List}
 use Rattle.spec.specs.Letters.{alphabet}
 use Rattle.theory_conjugacy.specs.Part.{commands, labels, label, apexes}
-use Rattle.theory_conjugacy.specs.PartLaws.{label-same, apexes-same}
+use Rattle.theory_conjugacy.specs.PartLaws.{apexes-same}
 use Rattle.theory_conjugacy.specs.Decision.{parts-joined?, cores-joined?}
 use Rattle.theory_words.specs.Alike.{alike?}
 use Rattle.theory_words.specs.AlikeLaws.{alike-true, alike-refl}
@@ -36,14 +36,8 @@ module _ {c : List ℕ} {conflicts : List (List ℕ)} {x y row : List ℕ} {at :
     unfolding label
     cores-joinable {fs} {names} f l = record {
       flagged = record {
-        two = record {
-          first = record { cyclic = h .first; labelled = l };
-          second = record {
-            cyclic = h .second;
-            labelled = subst (λ (lab : ℕ → ℕ). LabelsOf lab names) (label-same (alphabet c) x y same) l;
-          };
-          same = same;
-        };
+        two = record { first = h .first; second = h .second; same = same };
+        labelled = l;
         flags = f;
       };
       room = h .room;

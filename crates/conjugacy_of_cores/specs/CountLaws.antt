@@ -5,10 +5,13 @@ use native.Mathlib.Nat.{mul-add}
 use mathlib.Core.Path.{_≡_, _∙_, ap, subst}
 use mathlib.Core.List.{List}
 use lib.ListN.{length}
+use Rattle.theory_words.specs.Trace as Trace
 use Rattle.spec.specs.Catalogue as Catalogue
 use Rattle.spec.specs.Letters.{alphabet}
 use Rattle.theory_conjugacy.specs.Part.{commands, labels, label}
+use Rattle.theory_conjugacy.specs.PartLaws.{label-same}
 use Rattle.theory_conjugacy.specs.Rounds.{most-rounds, core-rounds}
+use Rattle.theory_conjugacy.specs.RoundsLaws.{core-rounds-along}
 use Rattle.conjugacy_commands.specs.Flags.{Flags}
 use Rattle.conjugacy_labels.specs.Labels.{LabelsOf}
 use Rattle.conjugacy_settled_parts.specs.PartOf.{Cyclic}
@@ -34,11 +37,19 @@ module _ {c : List ℕ} {conflicts : List (List ℕ)} {x y fs labels row : List 
   joinable-as-long e = record { flagged = h .flagged; room = omega (arith, h .room) }
 
   pub joinable-first : CoreOf c conflicts x fs labels row at
-  joinable-first = record { core = h .flagged .two .first; flags = h .flagged .flags; room = rooms .0 }
+  joinable-first = record {
+    core = record { cyclic = h .flagged .two .first; labelled = h .flagged .labelled };
+    flags = h .flagged .flags;
+    room = rooms .0;
+  }
 
   pub joinable-second : {row′ : List ℕ} → length row′ ≡ length row → CoreOf c conflicts y fs labels row′ at
   joinable-second e = record {
-    core = h .flagged .two .second;
+    core = record {
+      cyclic = h .flagged .two .second;
+      labelled = subst (λ (lab : ℕ → ℕ). LabelsOf lab labels) (label-same (alphabet c) x y (h .flagged .two .same))
+          (h .flagged .labelled);
+    };
     flags = subst (λ (ks : List ℕ). Flags ks fs) (h .flagged .two .same) (h .flagged .flags);
     room = omega (arith, rooms .1);
   }
@@ -79,11 +90,11 @@ core-counted {c} {x = x} {most = most} k t =
     t .count ∙ ap (λ (ms : List ℕ). max most (most-rounds (alphabet c) ms x))
     (apexes-from c x (k .flags) (k .core .labelled))
 
--- one core for both, where they are the same
+-- one core for both, where they are equal up to swaps
 pub same-counted : {c : List ℕ} {conflicts : List (List ℕ)} {x y fs names row row′ : List ℕ}
     {at n : ℕ} → CoreOf c conflicts x fs names row at
-    → Counts c x (apexesFrom fs names 24 0) 0 row row′ at n → x ≡ y → n ≡ coresRounds c x y
-same-counted {c} k t e = omega (arith, core-counted k t, ap (core-rounds (alphabet c)) e)
+    → Counts c x (apexesFrom fs names 24 0) 0 row row′ at n → Trace._~_ (alphabet c) x y → n ≡ coresRounds c x y
+same-counted {c} k t e = omega (arith, core-counted k t, core-rounds-along (alphabet c) e)
 
 -- one after the other
 pub cores-counted : {c : List ℕ} {conflicts : List (List ℕ)} {x y fs gs names others : List ℕ}

@@ -3,5 +3,7 @@ pub mod CoreLaws
 pub mod CountLaws
 pub mod Pair
 pub mod ConjugatorLaws
+pub mod GroupsLaws
+pub mod OneLaws
 pub mod PlaceLaws
 pub mod SofarLaws

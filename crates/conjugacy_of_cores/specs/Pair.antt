@@ -14,16 +14,24 @@ use Rattle.theory_conjugacy.specs.PartLaws.{shares}
 use Rattle.theory_conjugacy.specs.Decision.{cores-joined?}
 use Rattle.theory_conjugacy.specs.Rounds.{core-rounds}
 use Rattle.conjugacy_commands.specs.Flags.{Flags}
+use Rattle.conjugacy_labels.specs.Labels.{LabelsOf}
+use Rattle.conjugacy_parts.specs.Group.{Grouped}
 use Rattle.conjugacy_settled_parts.specs.PartOf.{Cyclic}
 use Rattle.conjugacy_rounds.specs.Apexes.{apexAt, apexesFrom}
 use Rattle.conjugacy_of_parts.specs.declared.Outcome.{Outcome}
 use Rattle.conjugacy_of_parts.specs.declared.Outcome.the-variants.{Joined, Apart}
 use Rattle.conjugacy_of_parts.specs.Parts.{Two, PartsJoined, bothRounds}
 
--- two cores in which the same commands occur: the flags tell which
+-- two cores in which the same commands occur: the flags tell which, and the labels are those of both
 pub record Flagged (c : List ℕ) (conflicts : List (List ℕ)) (core1 core2 fs labels : List ℕ) : Type 0 where
-  pub two : Two c conflicts core1 core2 labels
+  pub two : Two c conflicts core1 core2
+  pub labelled : LabelsOf (label (alphabet c) core1) labels
   pub flags : Flags (commands (alphabet c) core1) fs
+
+-- both cores, grouped
+pub record Groups (c core1 core2 word1 starts1 word2 starts2 : List ℕ) : Type 0 where
+  pub first : Grouped c core1 word1 starts1
+  pub second : Grouped c core2 word2 starts2
 
 -- all parts: the row has room behind place `at` for their lead-ins
 pub record Joinable (c : List ℕ) (conflicts : List (List ℕ)) (core1 core2 fs labels row : List ℕ) (at : ℕ)

@@ -107,7 +107,7 @@ module _ {c : List ℕ} {conflicts : List (List ℕ)} {x y fs labels before : Li
     done = [];
     left = 24;
     count = refl;
-    all = apexes-from c x (h .flagged .flags) (h .flagged .two .first .labelled);
+    all = apexes-from c x (h .flagged .flags) (h .flagged .labelled);
     parts = joined-none c x y before at;
     rounds = refl;
   }
@@ -117,8 +117,8 @@ module _ {c : List ℕ} {conflicts : List (List ℕ)} {x y fs labels before : Li
 
   range : (j : ℕ) → Occurs (alphabet c) j x → (1 ≤ j) × (j ≤ N)
   range = all-occurs (alphabet c) (λ j. (1 ≤ j) × (j ≤ N)) x
-      (all-map (λ b t. command-range N b (omega (arith, h .flagged .two .first .cyclic .few)) t) x
-      (h .flagged .two .first .cyclic .letters))
+      (all-map (λ b t. command-range N b (omega (arith, h .flagged .two .first .few)) t) x
+      (h .flagged .two .first .letters))
 
   -- the lead-ins of some of the apexes are short
   lead-ins-short : {after : List ℕ} {end : ℕ} (ms : List ℕ) → Within ms (apexes (alphabet c) x)

@@ -49,8 +49,8 @@ behind-both n l m i j at r a b k =
     let e : suc n ≡ 1 + n = omega arith in
     omega (arith, mul-add (suc n) l m, ap (λ j. j * l) e, add-mul 1 n l, ap (λ j. j * m) e, add-mul 1 n m)
 
-module _ {c : List ℕ} {conflicts : List (List ℕ)} {x y labels : List ℕ} {apex : ℕ} {row : List ℕ} {at : ℕ}
-    (k : Partable c conflicts x y labels apex row at) where
+module _ {c : List ℕ} {conflicts : List (List ℕ)} {x y : List ℕ} {apex : ℕ} {one two row : List ℕ} {at : ℕ}
+    (k : Partable c conflicts x y apex one two row at) where
   abbrev p : List ℕ
   p = part (alphabet c) apex x
 
@@ -65,55 +65,50 @@ module _ {c : List ℕ} {conflicts : List (List ℕ)} {x y labels : List ℕ} {a
   less = commands c - 1
 
   commands-less : commands c ≡ suc less
-  commands-less = omega (arith, apex-some (k .two .first .cyclic) (k .apical))
+  commands-less = omega (arith, apex-some (k .two .first) (k .apical))
 
   first-cycled : length (settling (alphabet c) apex p) + less ≤ less * length p
-  first-cycled = apex-cycled (k .two .first .cyclic) (k .apical) less commands-less
+  first-cycled = apex-cycled (k .two .first) (k .apical) less commands-less
 
   second-cycled : length (settling (alphabet c) apex q) + less ≤ less * length q
-  second-cycled = apex-cycled (k .two .second .cyclic) part-apex less commands-less
+  second-cycled = apex-cycled (k .two .second) part-apex less commands-less
 
   whole-room : at + suc less * (length p + length q) ≤ length row
   whole-room = subst (λ m. at + m * (length p + length q) ≤ length row) commands-less (k .room)
 
-  pub part-first : PartOf c conflicts x labels apex row at
+  pub part-first : PartOf c conflicts x apex one row at
   part-first = record {
     core = k .two .first;
     apical = k .apical;
+    letters = k .one;
     room = omega (arith, k .room, mul-add (commands c) (length p) (length q));
   }
 
-  -- a sheet, with its 1,024 bytes, holds either core
-  pub first-fits : {n : ℕ} → 1024 ≡ n → length x ≤ n
-  first-fits e = omega (arith, k .two .first .cyclic .short)
-
-  pub second-fits : {n : ℕ} → 1024 ≡ n → length y ≤ n
-  second-fits e = omega (arith, k .two .second .cyclic .short)
-
   -- behind what settling the first cycles
-  module _ {ring row′ : List ℕ} {one : Ends} (f : Rung c x apex ring row row′ at one)
+  module _ {ring row′ : List ℕ} {ends : Ends} (f : Rung c x apex ring row row′ at ends)
       (same : length row′ ≡ length row) where
-    first-room : one .cycled + suc less * length q ≤ length row′
+    first-room : ends .cycled + suc less * length q ≤ length row′
     first-room =
         let w = behind-first less (length p) (length q) (length (settling (alphabet c) apex p)) at (length row)
         first-cycled whole-room in
         omega (arith, w, f .end)
 
-    pub part-second : PartOf c conflicts y labels apex row′ (one .cycled)
+    pub part-second : PartOf c conflicts y apex two row′ (ends .cycled)
     part-second = record {
       core = k .two .second;
       apical = part-apex;
-      room = subst (λ m. one .cycled + m * length q ≤ length row′) (sym commands-less) first-room;
+      letters = k .other;
+      room = subst (λ m. ends .cycled + m * length q ≤ length row′) (sym commands-less) first-room;
     }
 
     -- the way from ring to ring
-    module _ {other row″ : List ℕ} {two : Ends} (g : Rung c y apex other row′ row″ (one .cycled) two)
+    module _ {other row″ : List ℕ} {last : Ends} (g : Rung c y apex other row′ row″ (ends .cycled) last)
         (kept : length row″ ≡ length row′) where
-      first-length : length (take (one .letters) ring) ≡ length p
+      first-length : length (take (ends .letters) ring) ≡ length p
       unfolding part-ring
       first-length = ap length (f .ring) ∙ ring-length (alphabet c) (apical-part (alphabet c) x (k .apical))
 
-      pub rings-room : RingsRoom (take (one .letters) ring) row″ (one .cycled) (two .cycled)
+      pub rings-room : RingsRoom (take (ends .letters) ring) row″ (ends .cycled) (last .cycled)
       rings-room =
           let w = behind-both less (length p) (length q) (length (settling (alphabet c) apex p))
           (length (settling (alphabet c) apex q)) at (length row) first-cycled second-cycled whole-room in
@@ -123,28 +118,29 @@ module _ {c : List ℕ} {conflicts : List (List ℕ)} {x y labels : List ℕ} {a
           }
 
       -- what stands before the letters cycled is as it was
-      begins : take (one .cycled) row″ ≡ take (one .cycled) row′
+      begins : take (ends .cycled) row″ ≡ take (ends .cycled) row′
       begins =
-          let n : length (take (one .cycled) row′) ≡ one .cycled
-          = length-take-le (one .cycled) row′ (omega (arith, first-room)) in
-          sym (take-take (one .cycled) (two .cycled) row″ (omega (arith, g .end))) ∙ ap (take (one .cycled)) (g .cycled)
-          ∙ take-at (take (one .cycled) row′) (settling (alphabet c) apex q) (one .cycled) n
+          let n : length (take (ends .cycled) row′) ≡ ends .cycled
+          = length-take-le (ends .cycled) row′ (omega (arith, first-room)) in
+          sym (take-take (ends .cycled) (last .cycled) row″ (omega (arith, g .end)))
+          ∙ ap (take (ends .cycled)) (g .cycled)
+          ∙ take-at (take (ends .cycled) row′) (settling (alphabet c) apex q) (ends .cycled) n
 
-      pub way-cycled : take (two .cycled) row″ ≡ take (one .cycled) row″ ++ settling (alphabet c) apex q
+      pub way-cycled : take (last .cycled) row″ ≡ take (ends .cycled) row″ ++ settling (alphabet c) apex q
       way-cycled = g .cycled ∙ ap (λ (z : List ℕ). z ++ settling (alphabet c) apex q) (sym begins)
 
       -- the same with the rings themselves
       outcome-of-rings : (after : List ℕ) (n : ℕ) (o : Outcome)
-          → RingsOutcome c (take (one .letters) ring) (take (two .letters) other) (settling (alphabet c) apex q) row″
-          (one .cycled) after n o
+          → RingsOutcome c (take (ends .letters) ring) (take (last .letters) other) (settling (alphabet c) apex q) row″
+          (ends .cycled) after n o
           → RingsOutcome c (part-ring (alphabet c) apex x) (part-ring (alphabet c) apex y)
-          (settling (alphabet c) apex q) row″ (one .cycled) after n o
+          (settling (alphabet c) apex q) row″ (ends .cycled) after n o
       outcome-of-rings after n o h = rw (← f .ring, ← g .ring) h
 
       -- it is the lead-in of the part
       part-joined : (after : List ℕ) (end : ℕ)
           → RingsJoined c (part-ring (alphabet c) apex x) (part-ring (alphabet c) apex y) (settling (alphabet c) apex q)
-          row″ (one .cycled) after end
+          row″ (ends .cycled) after end
           → PartsJoined c x y (apex ∷ []) row at after end
       unfolding parts-joined? parts-lead part-lead part-ring
       part-joined after end h =
@@ -167,13 +163,13 @@ module _ {c : List ℕ} {conflicts : List (List ℕ)} {x y labels : List ℕ} {a
       part-apart h = rw h
 
       -- the larger number of rounds is that of both parts
-      part-counted : {m : ℕ} → m ≡ max (one .rounds) (two .rounds) → m ≡ bothRounds c (apex ∷ []) x y
+      part-counted : {m : ℕ} → m ≡ max (ends .rounds) (last .rounds) → m ≡ bothRounds c (apex ∷ []) x y
       unfolding most-rounds
       part-counted e = omega (arith, f .rounds, g .rounds)
 
-      pub part-outcome : (after : List ℕ) {n : ℕ} → n ≡ max (one .rounds) (two .rounds) → (o : Outcome)
-          → RingsOutcome c (take (one .letters) ring) (take (two .letters) other) (settling (alphabet c) apex q) row″
-          (one .cycled) after n o
+      pub part-outcome : (after : List ℕ) {n : ℕ} → n ≡ max (ends .rounds) (last .rounds) → (o : Outcome)
+          → RingsOutcome c (take (ends .letters) ring) (take (last .letters) other) (settling (alphabet c) apex q) row″
+          (ends .cycled) after n o
           → PartsOutcome c x y (apex ∷ []) row at after o
       part-outcome after {n} e (Joined end m) h =
           let (j, l) = outcome-of-rings after n (Joined end m) h in

@@ -13,7 +13,7 @@ use Rattle.theory_conjugacy.specs.Rotation.{rotation}
 use Rattle.theory_conjugacy.specs.Decision.{rotated?, parts-joined?}
 use Rattle.theory_conjugacy.specs.LeadIn.{place, parts-lead}
 use Rattle.theory_conjugacy.specs.Rounds.{most-rounds}
-use Rattle.conjugacy_settled_parts.specs.PartOf.{Labelled}
+use Rattle.conjugacy_settled_parts.specs.PartOf.{Cyclic}
 use Rattle.conjugacy_of_parts.specs.declared.Outcome.{Outcome}
 use Rattle.conjugacy_of_parts.specs.declared.Outcome.the-variants.{Joined, Apart}
 
@@ -38,18 +38,20 @@ RingsOutcome c ring other cycled before at after rounds (Joined end n) =
 RingsOutcome c ring other cycled before at after rounds (Apart n) =
     (rotated? (alphabet c) ring other ≡ false) × (n ≡ rounds)
 
--- two cores in which the same commands occur, and their labels
-pub record Two (c : List ℕ) (conflicts : List (List ℕ)) (core1 core2 labels : List ℕ) : Type 0 where
-  pub first : Labelled c conflicts core1 labels
-  pub second : Labelled c conflicts core2 labels
+-- two cores in which the same commands occur
+pub record Two (c : List ℕ) (conflicts : List (List ℕ)) (core1 core2 : List ℕ) : Type 0 where
+  pub first : Cyclic c conflicts core1
+  pub second : Cyclic c conflicts core2
   pub same : commands (alphabet c) core1 ≡ commands (alphabet c) core2
 
--- one part: the apex is one of the first core, and the row has room behind place `at` for what as many rounds as
--- commands cycle of both
-pub record Partable (c : List ℕ) (conflicts : List (List ℕ)) (core1 core2 labels : List ℕ) (apex : ℕ) (row : List ℕ)
+-- one part of both, p and q: the apex is one of the first core, and the row has room behind place `at` for what as many
+-- rounds as commands cycle of both
+pub record Partable (c : List ℕ) (conflicts : List (List ℕ)) (core1 core2 : List ℕ) (apex : ℕ) (p q row : List ℕ)
     (at : ℕ) : Type 0 where
-  pub two : Two c conflicts core1 core2 labels
+  pub two : Two c conflicts core1 core2
   pub apical : apex ∈ apexes (alphabet c) core1
+  pub one : p ≡ part (alphabet c) apex core1
+  pub other : q ≡ part (alphabet c) apex core2
   pub room :
       at
       + Catalogue.commands c

@@ -49,26 +49,23 @@ fn join_rings(
 // Whether the first core's part with this apex is joined to the second's, and the lead-in behind the first bytes of the
 // row; with the rounds of the one that took more.
 pub fn join_part(
-    core1: &[u8],
-    core2: &[u8],
-    labels: &[u8; 24],
+    part1: &[u8],
+    part2: &[u8],
     apex: u8,
     conflicts: &[[u16; 24]; 24],
     row: &mut [u8],
     at: usize,
 ) -> Outcome
-    requires { ⌜ ((c : List ℕ)
-        × Partable c (now conflicts) (now core1) (now core2) (now labels) apex (now row) at) ⌝ }
-    ensures { λ r. ⌜ ((c : List ℕ)
-        → Partable c (now (conflicts .entry)) (now (core1 .entry)) (now (core2 .entry)) (now (labels .entry)) apex
-        (now (row .entry)) at
-        → PartsOutcome c (now (core1 .entry)) (now (core2 .entry)) (apex ∷ []) (now (row .entry)) at
-        (now (row .exit)) r) ⌝ }
+    requires { ⌜ ((c : List ℕ) × (x : List ℕ) × (y : List ℕ)
+        × Partable c (now conflicts) x y apex (now part1) (now part2) (now row) at) ⌝ }
+    ensures { λ r. ⌜ ((c x y : List ℕ)
+        → Partable c (now (conflicts .entry)) x y apex (now (part1 .entry)) (now (part2 .entry)) (now (row .entry)) at
+        → PartsOutcome c x y (apex ∷ []) (now (row .entry)) at (now (row .exit)) r) ⌝ }
 {
     let mut ring = sheet();
     let mut other = sheet();
-    let one = ring_of(core1, labels, apex, conflicts, &mut ring, row, at);
-    let two = ring_of(core2, labels, apex, conflicts, &mut other, row, one.cycled);
+    let one = ring_of(part1, apex, conflicts, &mut ring, row, at);
+    let two = ring_of(part2, apex, conflicts, &mut other, row, one.cycled);
     join_rings(
         &ring[..one.letters],
         &other[..two.letters],

@@ -56,11 +56,11 @@ module _ {c : List ℕ} {conflicts : List (List ℕ)} {x : List ℕ} (k : Cyclic
 
 -- from the settled part to the ring
 
-module _ {c : List ℕ} {conflicts : List (List ℕ)} {x labels : List ℕ} {apex : ℕ} {out : List ℕ} {at : ℕ}
-    (k : PartOf c conflicts x labels apex out at) {word out′ : List ℕ} {e : Ends}
+module _ {c : List ℕ} {conflicts : List (List ℕ)} {x : List ℕ} {apex : ℕ} {p out : List ℕ} {at : ℕ}
+    (k : PartOf c conflicts x apex p out at) {word out′ : List ℕ} {e : Ends}
     (s : SettledOf c x apex word out out′ at e) where
   abbrev y : Cyclic c conflicts x
-  y = k .core .cyclic
+  y = k .core
 
   abbrev z : List ℕ
   z = take (e .letters) word
@@ -75,8 +75,8 @@ module _ {c : List ℕ} {conflicts : List (List ℕ)} {x labels : List ℕ} {ape
   pub lent-cyclic : Cyclic c conflicts z
   lent-cyclic = settled-cyclic y (s .ended .rounded)
 
-  pub lent-short : length z ≤ length x
-  lent-short = omega (arith, lent-count, s .many, part-short y apex)
+  pub lent-short : length z ≤ length p
+  lent-short = omega (arith, lent-count, s .many, ap length (k .letters))
 
   pub lent-rung : {before after : List ℕ} {r : ℕ} → StartsWith (normalForm c z) before after r
       → Rung c x apex after out out′ at (record { letters = r; cycled = e .cycled; rounds = e .rounds })

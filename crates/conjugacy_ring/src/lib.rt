@@ -29,24 +29,23 @@ fn sorted(word: &[u8], conflicts: &[[u16; 24]; 24], ring: &mut [u8]) -> usize
     form(word, conflicts, ring)
 }
 
-// The ring of the core's part with this apex, and from a place in cycled on the letters that settling cycles.
+// The ring of the part with this apex, and from a place in cycled on the letters that settling cycles.
 pub fn ring_of(
-    core: &[u8],
-    labels: &[u8; 24],
+    part: &[u8],
     apex: u8,
     conflicts: &[[u16; 24]; 24],
     ring: &mut [u8],
     cycled: &mut [u8],
     at: usize,
 ) -> Ends
-    requires { ⌜ ((c : List ℕ) × PartOf c (now conflicts) (now core) (now labels) apex (now cycled) at)
-        × (length (now core) ≤ length (now ring)) ⌝ }
-    ensures { λ r. ⌜ ((c : List ℕ)
-        → PartOf c (now (conflicts .entry)) (now (core .entry)) (now (labels .entry)) apex (now (cycled .entry)) at
-        → Rung c (now (core .entry)) apex (now (ring .exit)) (now (cycled .entry)) (now (cycled .exit)) at r) ⌝ }
+    requires { ⌜ ((c : List ℕ) × (x : List ℕ) × PartOf c (now conflicts) x apex (now part) (now cycled) at)
+        × (length (now part) ≤ length (now ring)) ⌝ }
+    ensures { λ r. ⌜ ((c x : List ℕ)
+        → PartOf c (now (conflicts .entry)) x apex (now (part .entry)) (now (cycled .entry)) at
+        → Rung c x apex (now (ring .exit)) (now (cycled .entry)) (now (cycled .exit)) at r) ⌝ }
 {
     let mut word = sheet();
-    let ends = settle_part(core, labels, apex, conflicts, &mut word, cycled, at);
+    let ends = settle_part(part, apex, conflicts, &mut word, cycled, at);
     let letters = sorted(&word[..ends.letters], conflicts, ring);
     Ends {
         letters,

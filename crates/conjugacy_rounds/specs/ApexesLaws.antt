@@ -18,7 +18,7 @@ use Rattle.theory_conjugacy.specs.Part.{commands, label, apexes}
 use Rattle.conjugacy_commands.specs.Flags.{Flags, flagged}
 use Rattle.conjugacy_commands.specs.FlagsLaws.{flags-list, flag-set}
 use Rattle.conjugacy_labels.specs.Labels.{LabelsOf}
-use Rattle.conjugacy_rounds.specs.Apexes.{Apex, apexAt, apexesFrom}
+use Rattle.conjugacy_rounds.specs.Apexes.{Apex, apexAt, apexesFrom, NextApex, LoneApex}
 
 -- what a test tells where it is denied
 
@@ -58,6 +58,43 @@ unfolding apexesFrom
 apexes-end fs labels k l =
     let e : 24 - k ≡ 0 = omega arith in
     ap (λ n. apexesFrom fs labels n k) e
+
+-- the search for the next apex: from k on there is none before j
+
+pub record Searching (fs labels : List ℕ) (k j : ℕ) : Type 0 where
+  pub within : j ≤ 24
+  pub rest : apexesFrom fs labels (24 - k) k ≡ apexesFrom fs labels (24 - j) j
+
+module _ {fs labels : List ℕ} {k j : ℕ} (s : Searching fs labels k j) where
+  pub searching-again : j < 24 → ¬ Apex fs labels j → Searching fs labels k (j + 1)
+  searching-again l n = record {
+    within = omega arith;
+    rest = s .rest ∙ apexes-next fs labels j l
+        ∙ ap (λ (ms : List ℕ). ms ++ apexesFrom fs labels (24 - (j + 1)) (j + 1)) (apex-none fs labels j n);
+  }
+
+  pub searching-found : j < 24 → Apex fs labels j → NextApex fs labels k j
+  searching-found l a = record { within = omega arith; apex = λ h. a; rest = s .rest }
+
+  pub searching-end : 24 ≤ j → NextApex fs labels k 24
+  searching-end l = record {
+    within = omega arith;
+    apex = λ h. absurd (omega arith);
+    rest = s .rest ∙ apexes-end fs labels j l ∙ sym (apexes-end fs labels 24 (omega arith));
+  }
+
+-- the first apex is the only one where there is none behind it
+pub lone-apex : {fs labels : List ℕ} {k r : ℕ} → NextApex fs labels 0 k → k < 24 → NextApex fs labels (k + 1) r
+    → 24 ≤ r → LoneApex fs labels k
+lone-apex {fs} {labels} {k} {r} f l g u = record {
+  apex = f .apex;
+  only = λ h. f .rest ∙ apexes-next fs labels k l
+      ∙ ap (λ (ms : List ℕ). ms ++ apexesFrom fs labels (24 - (k + 1)) (k + 1)) (apex-own fs labels k (f .apex l))
+      ∙ ap (λ (ms : List ℕ). (k + 1) ∷ ms) (g .rest ∙ apexes-end fs labels r u);
+}
+
+pub none-lone : {fs labels : List ℕ} → LoneApex fs labels 24
+none-lone = record { apex = λ h. absurd (omega arith); only = λ h. absurd (omega arith) }
 
 -- all commands
 

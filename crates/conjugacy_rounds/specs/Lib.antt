@@ -2,3 +2,4 @@ pub mod Apexes
 pub mod ApexesLaws
 pub mod Counting
 pub mod CountingLaws
+pub mod WholeLaws

@@ -9,8 +9,7 @@ use Rattle.spec.specs.Letters.{alphabet}
 use Rattle.spec_laws.specs.LettersLaws.{Commands}
 use Rattle.theory_conjugacy.specs.Turn.{Round}
 use Rattle.theory_conjugacy.specs.AscendingLaws.{_∈_}
-use Rattle.theory_conjugacy.specs.Part.{label, apexes, part}
-use Rattle.conjugacy_labels.specs.Labels.{LabelsOf}
+use Rattle.theory_conjugacy.specs.Part.{apexes, part}
 use Rattle.conjugacy_settling.specs.Settling.{Ended}
 use Rattle.conjugacy_settled_parts.specs.declared.Ends.{Ends}
 
@@ -22,17 +21,13 @@ pub record Cyclic (c : List ℕ) (conflicts : List (List ℕ)) (x : List ℕ) : 
   pub round : Round (alphabet c) x
   pub short : length x ≤ 1024
 
--- with its labels
-pub record Labelled (c : List ℕ) (conflicts : List (List ℕ)) (x labels : List ℕ) : Type 0 where
-  pub cyclic : Cyclic c conflicts x
-  pub labelled : LabelsOf (label (alphabet c) x) labels
-
--- the apex is one of the core's, and there is room, from place `at` on, for the letters that as many rounds as commands
--- cycle
-pub record PartOf (c : List ℕ) (conflicts : List (List ℕ)) (x labels : List ℕ) (apex : ℕ) (out : List ℕ) (at : ℕ)
+-- p is the core's part with this apex, and there is room, from place `at` on, for the letters that as many rounds as
+-- commands cycle
+pub record PartOf (c : List ℕ) (conflicts : List (List ℕ)) (x : List ℕ) (apex : ℕ) (p out : List ℕ) (at : ℕ)
     : Type 0 where
-  pub core : Labelled c conflicts x labels
+  pub core : Cyclic c conflicts x
   pub apical : apex ∈ apexes (alphabet c) x
+  pub letters : p ≡ part (alphabet c) apex x
   pub room : at + commands c * length (part (alphabet c) apex x) ≤ length out
 
 -- the part, settled, stands at the start of `word`

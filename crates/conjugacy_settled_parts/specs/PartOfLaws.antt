@@ -73,18 +73,26 @@ module _ {c : List ℕ} {conflicts : List (List ℕ)} {x : List ℕ} (k : Cyclic
 
 -- the steps of settling a part
 
-module _ {c : List ℕ} {conflicts : List (List ℕ)} {x labels : List ℕ} {apex : ℕ} {out : List ℕ} {at : ℕ}
-    (k : PartOf c conflicts x labels apex out at) {word : List ℕ} (d : word ≡ part (alphabet c) apex x) where
-  pub part-settleable : {high : List ℕ} → length x ≤ length high → Settleable c apex word conflicts high out at
+-- a sheet, with its 1,024 bytes, holds it
+pub part-fits : {c : List ℕ} {conflicts : List (List ℕ)} {x : List ℕ} {apex : ℕ} {y out : List ℕ} {at n : ℕ}
+    → PartOf c conflicts x apex y out at → 1024 ≡ n → length y ≤ n
+part-fits {apex = apex} k e = omega (arith, ap length (k .letters), part-short (k .core) apex, k .core .short)
+
+module _ {c : List ℕ} {conflicts : List (List ℕ)} {x : List ℕ} {apex : ℕ} {y out : List ℕ} {at : ℕ}
+    (k : PartOf c conflicts x apex y out at) {word : List ℕ} (same : word ≡ y) where
+  abbrev d : word ≡ part (alphabet c) apex x
+  d = same ∙ k .letters
+
+  pub part-settleable : {high : List ℕ} → length y ≤ length high → Settleable c apex word conflicts high out at
   part-settleable {high} l =
-      let y = k .core .cyclic in
+      let core = k .core in
       subst (λ (z : List ℕ). Settleable c apex z conflicts high out at) (sym d) (record {
-        letters = commands-lettered (commands c) (part (alphabet c) apex x) (y .few) (part-letters y apex);
-        table = y .table;
+        letters = commands-lettered (commands c) (part (alphabet c) apex x) (core .few) (part-letters core apex);
+        table = core .table;
         connected = part-connected (alphabet c) apex x;
         apex-occurs = apex-occurs (alphabet c) x (k .apical);
-        upper = omega (arith, part-short y apex);
-        room = omega (arith, k .room, apex-room y (k .apical));
+        upper = omega (arith, ap length (k .letters));
+        room = omega (arith, k .room, apex-room core (k .apical));
       })
 
   pub part-settled : {n e m : ℕ} {word′ out′ : List ℕ} → n ≡ length word
@@ -93,7 +101,7 @@ module _ {c : List ℕ} {conflicts : List (List ℕ)} {x labels : List ℕ} {ape
   part-settled f o = record { many = f ∙ ap length d; ended = rw (f, ← d) o }
 
 -- the rounds that settling took are those that the part needs
-pub settled-rounds : {c : List ℕ} {conflicts : List (List ℕ)} {x labels : List ℕ} {apex : ℕ}
-    {word out out′ : List ℕ} {at : ℕ} {e : Ends} → PartOf c conflicts x labels apex out at
+pub settled-rounds : {c : List ℕ} {conflicts : List (List ℕ)} {x : List ℕ} {apex : ℕ}
+    {p word out out′ : List ℕ} {at : ℕ} {e : Ends} → PartOf c conflicts x apex p out at
     → SettledOf c x apex word out out′ at e → e .rounds ≡ part-rounds (alphabet c) apex x
 settled-rounds {c} {x = x} {apex = apex} k s = sym (part-rounded (alphabet c) apex x (k .apical) (s .ended .rounded))

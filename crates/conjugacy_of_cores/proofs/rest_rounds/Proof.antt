@@ -3,47 +3,48 @@ use Prim.Native.Nat.{_+_, _-_}
 use native.Mathlib.Omega.{arith}
 use borrow.Author.Needs.{needs}
 use Rattle.conjugacy_rounds.specs.Apexes.{apexesFrom}
-use Rattle.conjugacy_of_cores.specs.CountLaws.{joinable-first, joinable-second, both-counted}
+use Rattle.conjugacy_of_cores.specs.CountLaws.{both-counted}
+use Rattle.conjugacy_of_cores.specs.GroupsLaws.{groups-first, groups-second}
 use Rattle.conjugacy_of_cores.proofs.rest_rounds.Statement.{statement}
 use Rattle.conjugacy_of_cores.proofs.rest_rounds.Tie as tie
 
 -- places on the way
 
-abbrev start : tie.After-most-rounds-arg → tie.Start
+abbrev start : tie.After-group-rounds-arg → tie.Start
 start c = c .before .before .before .before
 
-abbrev first : tie.After-most-rounds-arg2 → tie.After-most-rounds
+abbrev first : tie.After-group-rounds-arg2 → tie.After-group-rounds
 first c = c .before .before .before
 
-most-rounds-requires : tie.Need-most-rounds-requires
-most-rounds-requires c κs =
-    let (l, (k, h)) = start c .pre in
-    (omega arith, (k, joinable-first h))
+group-rounds-requires : tie.Need-group-rounds-requires
+group-rounds-requires c κs =
+    let (l, (k, x, y, g, h)) = start c .pre in
+    (omega arith, (k, x, groups-first h g))
 
-most-rounds-requires-2 : tie.Need-most-rounds-requires-2
-most-rounds-requires-2 c κs =
+group-rounds-requires-2 : tie.Need-group-rounds-requires-2
+group-rounds-requires-2 c κs =
     let a = first c in
-    let (l, (k, h)) = start (a .before) .pre in
-    (omega arith, (k, joinable-second h (a .most-rounds .kept .1 .1 .1 .1 .1 .1 .0)))
+    let (l, (k, x, y, g, h)) = start (a .before) .pre in
+    (omega arith, (k, y, groups-second h g (a .group-rounds .kept .1 .1 .1 .1 .1 .1 .1 .0)))
 
 returns : tie.Need-returns
 returns c =
     let b = c .before .before in
     let a = first (b .before) in
     let s = start (a .before) .args in
-    λ k h.
-    both-counted k (s .core1 .now) (s .core2 .now)
+    λ k x y g h.
+    both-counted k x y
     (apexesFrom (s .flags .now) (s .labels .now) (24 - (s .k + 1)) (s .k + 1))
-    (a .most-rounds .ensures k (joinable-first h))
-    (b .most-rounds2 .ensures k (joinable-second h (a .most-rounds .kept .1 .1 .1 .1 .1 .1 .0)))
+    (a .group-rounds .ensures k x (groups-first h g))
+    (b .group-rounds2 .ensures k y (groups-second h g (a .group-rounds .kept .1 .1 .1 .1 .1 .1 .1 .0)))
 
 pub rest-rounds-spec : {M : Type 1} → statement M
 rest-rounds-spec =
     tie.close
     (tie.spec
     (λ c. omega arith)
-    most-rounds-requires
+    group-rounds-requires
     (λ c. omega arith)
-    most-rounds-requires-2
+    group-rounds-requires-2
     (λ c. search needs)
     returns)

@@ -1,47 +1,35 @@
--- `conjugacy_rounds::most_rounds` meets its contract. The loop's invariant: the larger of what is found and what the
--- parts that are left need is what is asked. The measure is what is left of the 24 commands. Assumes nothing.
-use Prim.Native.Nat.{_-_}
+-- `conjugacy_rounds::most_rounds` meets its contract: where there is one apex, the core is its part. Assumes nothing.
+use native.Mathlib.Omega.{arith}
+use Prim.Native.Nat.{_<_}
 use borrow.Author.Needs.{needs}
-use Rattle.conjugacy_rounds.specs.CountingLaws.{Counting, counting-start, counting-core, counting-again}
-use Rattle.conjugacy_rounds.specs.CountingLaws.{counting-end}
+use Rattle.conjugacy_rounds.specs.CountingLaws.{lone-part, lone-counts}
 use Rattle.conjugacy_rounds.proofs.most_rounds.Statement.{statement}
 use Rattle.conjugacy_rounds.proofs.most_rounds.Tie as tie
 
-abbrev Inv-loop : tie.InvT-loop
-Inv-loop core flags labels k most conflicts row₀ at found₀ j₀ row found j =
-    Counting conflicts core flags labels k most row₀ at row found j
+lone : (e : tie.Else1) → e .before .lone-apex .result < 24
+lone e = omega (arith, e .if1 .left)
 
-abbrev μ-loop : tie.MeasureT-loop
-μ-loop core flags labels k most conflicts row₀ at found₀ j₀ row found j = 24 - j
+apex-rounds-requires : tie.Need-apex-rounds-requires
+apex-rounds-requires c κs =
+    let e = c .before in
+    let a = e .before in
+    let (k, h) = a .before .before .before .pre in
+    (lone e, (k, _, lone-part h (lone e) (a .lone-apex .ensures)))
 
-loop-holds : tie.Need-loop-holds Inv-loop μ-loop
-loop-holds c = counting-start (c .before .before .pre .0)
-
-rounds-at-requires : tie.Need-rounds-at-requires Inv-loop μ-loop
-rounds-at-requires c κs =
-    let l = c .before .before in
-    let (u, (k, h)) = l .before .before .before .pre in
-    (c .before .loop-test .taken, (k, counting-core (l .loop .inv) h))
-
-loop-again : tie.Need-loop-again Inv-loop μ-loop
-loop-again c =
-    let r = c .before .before .before in
-    let t = r .before .before in
-    counting-again (t .before .loop .inv) (t .loop-test .taken) (search needs) (r .rounds-at .ensures)
-    (c .larger .ensures)
-
-returns : tie.Need-returns Inv-loop μ-loop
-returns c = counting-end (c .before .loop .inv) (c .loop-test .left)
+returns-2 : tie.Need-returns-2
+returns-2 c =
+    let p = c .before .before .before in
+    let e = p .before .before in
+    let a = e .before in
+    λ k h.
+    let o = a .lone-apex .ensures in
+    lone-counts h (lone e) o (p .apex-rounds .ensures k _ (lone-part h (lone e) o)) (c .larger .ensures)
 
 pub most-rounds-spec : {M : Type 1} → statement M
 most-rounds-spec =
     tie.close
     (tie.spec
-    Inv-loop
-    μ-loop
-    loop-holds
-    rounds-at-requires
-    (λ c κs. search needs) (λ c. search needs) (λ c. search needs)
-    loop-again
-    (λ c. search needs)
-    returns)
+    (λ c κs. search needs) (λ c κs. search needs) (λ c. search needs) (λ c. search needs)
+    apex-rounds-requires
+    (λ c κs. search needs) (λ c. search needs)
+    returns-2)
