@@ -3,7 +3,7 @@
 # notation". A row of them names an edit, a row of crates/cases/stdin or crates/cases_texts/stdin, the library's answer
 # to that row and the wrong program's. The edit's changes of the code go into a copy, and `rt try` runs the program
 # there, unproved, with that row of stdin alone: interpreted, unless that takes more steps than rt allows, and compiled
-# three ways. It takes four and a half minutes on two cores that do nothing else, and ./test runs it.
+# three ways. It takes five and a half minutes on two cores that do nothing else, and ./test runs it.
 #
 #   tests/edits.sh [EDIT...]     EDIT: CRATE/LABEL; by default all in the tables
 set -e
