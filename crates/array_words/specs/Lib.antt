@@ -1,2 +1,3 @@
+pub mod ChangingLaws
 pub mod Words
 pub mod WordsLaws

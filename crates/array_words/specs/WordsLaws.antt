@@ -4,7 +4,7 @@ use Rattle.std.proofs.Common.{arith, below_more, sym, ◌∙◌, ap, length-set,
 use Rattle.std.proofs.Math.Decide.{ℕ_discrete}
 use Rattle.std.proofs.lemmas.List.{get_or-replicate}
 use Rattle.array_counts.specs.Heights.{Both, Changed}
-use Rattle.array_counts.specs.HeightsLaws.{Changing}
+use Rattle.array_words.specs.ChangingLaws.{Changing}
 use Rattle.array_words.specs.Words.{four, word_at, Fits, Combined, Spread, WordsOf, Written}
 use Rattle.array_words.specs.Words.{Small, Held, Sole, Unless, Changeable}
 

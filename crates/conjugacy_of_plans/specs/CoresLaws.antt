@@ -1,13 +1,8 @@
--- The core of a plan, and the letters taken off in front: the room for them, and what is lent of them.
-use Rattle.std.specs.Prelude.{ℕ, ◌≤◌, ◌≡◌, List, length, take}
-use Rattle.std.proofs.Common.{arith, sym, length-take-le}
-use Rattle.piling_core_letters.specs.CoreLetters.{Room, CoreLetters}
+-- The core of a plan, and the letters taken off in front: what is lent of them.
+use Rattle.std.specs.Prelude.{ℕ, ◌≡◌, List, length, take}
+use Rattle.std.proofs.Common.{sym, length-take-le}
+use Rattle.piling_core_letters.specs.CoreLetters.{CoreLetters}
 use Rattle.conjugacy_by_cores.specs.CoreAndLead.{CoreAndLead}
-
--- two rows for 1,024 letters are room enough
-pub sheets_room : (plan area lead : List ℕ) → length plan ≤ 1024 → 1024 ≡ length area → 1024 ≡ length lead
-    → Room plan area lead
-sheets_room plan area lead l e f = record { wide = omega arith; deep = omega arith }
 
 module _ {c v core lead : List ℕ} {n m : ℕ} (k : CoreLetters c v core lead n m) where
   pub core_and_lead : CoreAndLead c v (take n core) (take m lead)

@@ -7,7 +7,7 @@ ghost use Rattle.conjugacy_by_cores.specs.Join.{Plans, Cores, PlansRoom, PlansOu
 use array_row::sheet;
 use conjugacy_by_cores::lead_in_form;
 use conjugacy_of_parts::Outcome;
-use piling_core_letters::cores_of;
+use piling_core_letters::core_of;
 
 // As `lead_in_form`, for n commands, with a row of its own: the shortest that suffices, so that short cores clear
 // little.
@@ -61,16 +61,15 @@ pub fn join_plans(
 {
     let mut core1 = sheet();
     let mut lead1 = sheet();
+    let one = core_of(v, conflicts, &mut core1, &mut lead1);
     let mut core2 = sheet();
     let mut lead2 = sheet();
-    let found = cores_of(
-        v, w, conflicts, &mut core1, &mut lead1, &mut core2, &mut lead2,
-    );
+    let two = core_of(w, conflicts, &mut core2, &mut lead2);
     join_by_cores(
-        &core1[..found.core1],
-        &lead1[..found.lead1],
-        &core2[..found.core2],
-        &lead2[..found.lead2],
+        &core1[..one.core],
+        &lead1[..one.lead],
+        &core2[..two.core],
+        &lead2[..two.lead],
         commands,
         conflicts,
         area,

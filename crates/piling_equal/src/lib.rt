@@ -5,8 +5,6 @@ ghost use Rattle.std.specs.Prelude.{ℕ, ◌≡◌, true, List, reverse, ◌↔�
 ghost use Rattle.theory_words.specs.Group.{◌≈◌};
 ghost use Rattle.spec.specs.Letters.{alphabet, letters, normal_form};
 ghost use Rattle.input_checks.specs.Passed.{Passed};
-ghost use Rattle.array_words.specs.Words.{Held, Unless};
-ghost use Rattle.array_lone.specs.Lone.{Lone};
 ghost use Rattle.array_counts.specs.Blank.{blank_heights};
 ghost use Rattle.piling_stacks.specs.Blank.{blank_rows};
 ghost use Rattle.piling_stacks.specs.Piling.{Counted};
@@ -22,30 +20,27 @@ fn undo_byte(
     conflicts: &[[u16; 24]; 24],
     rows: &mut [[u8; 1024]; 24],
     heights: &mut [u16; 24],
-    held: &mut [u64; 6],
-    sole: bool,
     spare: usize,
 ) -> usize
     requires { (c : List ℕ) × (z : List ℕ)
-        × Undoable c conflicts.now rows.old heights.old byte spare z
-        × (sole ≡ true → Lone conflicts.now) × Unless sole (Held heights.old held.old) }
-    ensures undone { (c z : List ℕ)
+        × Undoable c conflicts.now rows.old heights.old byte spare z }
+    ensures { (c z : List ℕ)
         → Undoable c conflicts.now rows.old heights.old byte spare z
         → Undone c rows.new heights.new byte spare z result }
-    ensures held { Unless sole (Held heights.new held.new) }
 {
     if byte == 0 {
         return 1;
     }
     let k = (byte % 128) as usize - 1;
+    let line = conflicts[k];
     let letter = opposite(byte);
-    if cancel(rows, heights, held, conflicts, k, sole, letter) {
+    if cancel(rows, heights, &line, k, letter) {
         return 0;
     }
     if spare < 2 {
         return 2;
     }
-    put(rows, heights, held, conflicts, k, sole, letter);
+    put(rows, heights, &line, k, letter);
     2
 }
 
@@ -67,12 +62,10 @@ fn equals(
     if i < n {
         return false;
     }
-    let mut held = array_words::words(heights);
-    let sole = array_lone::lone_for(i, conflicts);
     let mut spare = i - n;
     while i > 0 {
         i -= 1;
-        let spent = undo_byte(w[i], conflicts, rows, heights, &mut held, sole, spare);
+        let spent = undo_byte(w[i], conflicts, rows, heights, spare);
         if spare < spent {
             return false;
         }

@@ -1,8 +1,7 @@
 // A plan piled up from left to right, and the places of its letters that cancel with each other.
 
-ghost use Rattle.std.specs.Prelude.{ℕ, ◌+◌, ◌*◌, ◌<◌, ◌≤◌, ◌≡◌, List, [], length, get_or, set};
+ghost use Rattle.std.specs.Prelude.{ℕ, ◌+◌, ◌*◌, ◌<◌, ◌≤◌, ◌≡◌, List, length, get_or, set};
 ghost use Rattle.std.proofs.Math.Option.{some};
-ghost use Rattle.array_words.specs.Words.{Held, Unless, Changeable};
 ghost use Rattle.spec.specs.Pairs.{Placed, placed, partner};
 ghost use Rattle.piling_stacks.specs.Piling.{Counted};
 ghost use Rattle.piling_stacks.specs.Pile.{Given, reduced};
@@ -50,33 +49,29 @@ fn uncover(newest: &mut [u16; 24], below: &[u16; 1024], k: usize) -> u16
 
 // The step: a letter of command k + 1, at this place of its plan, cancels or is put on. Where it cancels it tells the
 // place of the letter that it cancels with. newest has the place of the newest letter left of each command, and below,
-// for the place of each letter left, that of the next letter of its command below it. held has the heights as words, but
-// where k + 1 is sole.
+// for the place of each letter left, that of the next letter of its command below it.
 pub fn push(
     rows: &mut [[u8; 1024]; 24],
     heights: &mut [u16; 24],
-    held: &mut [u64; 6],
     newest: &mut [u16; 24],
     below: &mut [u16; 1024],
-    conflicts: &[[u16; 24]; 24],
+    line: &[u16; 24],
     k: usize,
-    sole: bool,
     letter: u8,
     place: usize,
 ) -> Step
     requires { (c : List ℕ) × (t : List Placed) × Stepping c rows.old heights.old newest.old below.old
-        (get_or conflicts.now k []) k letter place t × Changeable k sole conflicts.now heights.old held.old }
-    ensures stepped { (c : List ℕ) (t : List Placed)
+        line.now k letter place t }
+    ensures { (c : List ℕ) (t : List Placed)
         → Stepping c rows.old heights.old newest.old below.old
-        (get_or conflicts.now k []) k letter place t
+        line.now k letter place t
         → Stepped c rows.new heights.new newest.new below.new
         (placed letter place) t (partner c letter t) (told_step result) }
-    ensures held { Unless sole (Held heights.new held.new) }
 {
-    if cancel(rows, heights, held, conflicts, k, sole, letter) {
+    if cancel(rows, heights, line, k, letter) {
         return Step::Cancelled(uncover(newest, below, k));
     }
-    put(rows, heights, held, conflicts, k, sole, letter);
+    put(rows, heights, line, k, letter);
     cover(newest, below, k, place);
     Step::Put
 }
@@ -123,8 +118,6 @@ pub fn pile(
 {
     let mut newest = array_counts::blank_heights();
     let mut below = blank_places();
-    let mut held = array_words::words(heights);
-    let sole = array_lone::lone_for(plan.len(), conflicts);
     let mut read = 0;
     let mut n = 0;
     let mut i = 0;
@@ -132,18 +125,8 @@ pub fn pile(
         let letter = plan[i];
         if letter != 0 {
             let k = (letter % 128) as usize - 1;
-            let step = push(
-                rows,
-                heights,
-                &mut held,
-                &mut newest,
-                &mut below,
-                conflicts,
-                k,
-                sole,
-                letter,
-                i,
-            );
+            let line = conflicts[k];
+            let step = push(rows, heights, &mut newest, &mut below, &line, k, letter, i);
             n = paired(pairs, n, step, i as u16);
             read += 1;
         }

@@ -13,7 +13,6 @@ use Rattle.spec.specs.AlphabetLaws.{command_undone}
 use Rattle.spec.specs.Letters.{alphabet}
 use Rattle.piling_stacks.specs.Piling.{Piled}
 use Rattle.array_counts.specs.Heights.{Both, Changed}
-use Rattle.array_words.specs.Words.{Small}
 use Rattle.piling_stacks.specs.BeadsLaws.{Beads, written, beads_fit, beads_split, beads_top, meets_add, meets_off}
 use Rattle.array_counts.specs.MeetsLaws.{Meets, meets_line, meets_length, meets_one}
 use Rattle.piling_stacks.specs.Push.{Facing, Ready, Cancelled}
@@ -41,13 +40,6 @@ beads_piled {c} {z = z} t m b = record {
   stack = λ i l. (b i l).stack;
   height = λ i l. (b i l).height ∙ length-reverse (proj (alphabet c) 0 (i + 1) z);
   above = λ i j l h. (b i l).above j h;
-}
-
--- the heights are numbers of 16 bits
-pub piled_small : {c : List ℕ} {rows : List (List ℕ)} {heights z : List ℕ} → Piled c rows heights z → Small heights
-piled_small p = record {
-  many = p.shape.many;
-  small = λ i l. omega (arith, beads_fit (piled_beads p i l));
 }
 
 module _ {c : List ℕ} {rows : List (List ℕ)} {heights line : List ℕ} {k letter : ℕ} {z : List ℕ}

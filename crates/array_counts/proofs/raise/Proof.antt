@@ -3,19 +3,19 @@ use Prim.Native.Nat.{◌-◌}
 use native.Mathlib.Omega.{arith}
 use lib.ListN.{get_or}
 use borrow.Author.Rules.{rules}
-use Rattle.array_counts.specs.HeightsLaws.{ByLine, changing_start, changing_again, changed_end, times_low}
+use Rattle.array_counts.specs.HeightsLaws.{Changing, changing_start, changing_again, changing_end, times_low}
 use Rattle.array_counts.specs.Heights.{at_least}
 use Rattle.array_counts.proofs.raise.Statement.{statement}
 use Rattle.array_counts.proofs.raise.Tie as tie
 
 abbrev invariant-loop : tie.invariant-loop
-invariant-loop numbers₀ line least m₀ numbers m = ByLine (at_least least) line numbers₀ numbers m
+invariant-loop numbers₀ line least m₀ numbers m = Changing (at_least least) line numbers₀ numbers m
 
 abbrev decreases-loop : tie.decreases-loop
 decreases-loop numbers₀ line least m₀ numbers m = 24 - m
 
 loop-holds : tie.Need-loop-init invariant-loop decreases-loop
-loop-holds c = changing_start 24 (at_least c.args.least) _
+loop-holds c = changing_start (at_least c.args.least)
 
 mul-larger-3 : tie.Need-overflow-mul-larger-3 invariant-loop decreases-loop
 mul-larger-3 c =
@@ -28,10 +28,10 @@ loop-again : tie.Need-loop-preserved invariant-loop decreases-loop
 loop-again c =
     let t = c.before.before.before.before in
     let s = t.before in
-    rw c.larger.ensures (changing_again 24 (at_least s.args.least) _ (omega arith) t.loop.invariant s.requires.many)
+    rw c.larger.ensures (changing_again (at_least s.args.least) s.requires.many (omega arith) t.loop.invariant)
 
 returns : tie.Need-returns invariant-loop decreases-loop
-returns c = changed_end (at_least _) (omega arith) c.before.loop.invariant
+returns c = changing_end (at_least _) (omega arith) c.before.loop.invariant
 
 pub raise-spec : {M : Type 1} → statement M
 raise-spec =

@@ -1,7 +1,7 @@
 -- `array_words::add` meets its contract: below i the words are sums, from i on they are as they were.
 use Prim.Native.Nat.{ℕ, ◌+◌, ◌-◌, ◌<◌}
 use native.Mathlib.Omega.{arith}
-use Rattle.array_counts.specs.HeightsLaws.{changing_start, changing_at, changing_again}
+use Rattle.array_words.specs.ChangingLaws.{changing_start, changing_at, changing_again}
 use Rattle.array_words.specs.WordsLaws.{ByWord, combined_end}
 use Rattle.array_words.proofs.add.Statement.{statement}
 use Rattle.array_words.proofs.add.Tie as tie

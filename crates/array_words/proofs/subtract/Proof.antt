@@ -1,7 +1,7 @@
 -- `array_words::subtract` meets its contract: below j the words are differences, from j on they are as they were.
 use Prim.Native.Nat.{◌-◌, ◌≤◌}
 use native.Mathlib.Omega.{arith}
-use Rattle.array_counts.specs.HeightsLaws.{changing_start, changing_at, changing_again}
+use Rattle.array_words.specs.ChangingLaws.{changing_start, changing_at, changing_again}
 use Rattle.array_words.specs.WordsLaws.{ByWord, combined_end}
 use Rattle.array_words.proofs.subtract.Statement.{statement}
 use Rattle.array_words.proofs.subtract.Tie as tie

@@ -1,5 +1,5 @@
--- The plan's pairs and the letters taken off are known, and the letters left are the core's. The rows stay as the plan
--- was piled up in them. Assumes nothing.
+-- `piling_core_letters::core_of` meets its contract: the plan's pairs and the letters taken off are known, and the
+-- letters left are the core's. Assumes nothing.
 use Prim.Native.Nat.{ℕ}
 use native.Mathlib.Omega.{arith}
 use mathlib.Core.List.{List, reverse}
@@ -11,18 +11,17 @@ use Rattle.piling_equal.specs.PassedLaws.{passed_given}
 use Rattle.piling_core.specs.Peeling.{Peelable, Peeled}
 use Rattle.piling_form.specs.CoringLaws.{passed_peelable}
 use Rattle.piling_core_letters.specs.CoreLettersLaws.{pairs_fit, pairs_few, pairs_count, peeled_known}
-use Rattle.piling_core_letters.specs.CoreLettersLaws.{peeled_count, peeled_fits, peeled_letters, none_letters}
-use Rattle.piling_core_letters.specs.LowLaws.{piled_low}
+use Rattle.piling_core_letters.specs.CoreLettersLaws.{peeled_count, peeled_fits, peeled_letters}
 use Rattle.piling_core_letters.proofs.core_of.Statement.{statement}
 use Rattle.piling_core_letters.proofs.core_of.Tie as tie
 
 -- places on the way
 
 abbrev start : tie.After-pile → tie.Start
-start c = c.before.before.before.before.before.before.before.before.before
+start c = c.before.before.before.before.before.before.before.before.before.before
 
-abbrev pile : tie.After-peel-arg2 → tie.After-pile
-pile c = c.before.before.before.before.before.before.before.before
+abbrev pile : tie.After-peel-arg → tie.After-pile
+pile c = c.before.before.before.before.before.before
 
 -- the plan is piled up
 module _ (c : tie.After-pile) (k : List ℕ) where
@@ -32,22 +31,25 @@ module _ (c : tie.After-pile) (k : List ℕ) where
   abbrev Asked : Type 0
   Asked = Passed k (start c).args.conflicts.now plan
 
-  given : Asked → Given k plan (start c).args.conflicts.now (start c).args.rows.now
+  given : Asked → Given k plan (start c).args.conflicts.now
+      c.before.before.before.before.before.before.blank_rows_lem.result
       c.before.before.before.before.before.blank-heights.result
-  given p = passed_given p (start c).requires.0 c.before.before.before.before.before.blank-heights.ensures
+  given p =
+      passed_given p c.before.before.before.before.before.before.blank_rows_lem.ensures
+      c.before.before.before.before.before.blank-heights.ensures
 
   pairs : Asked → PairsOf k plan c.before.before.before.before.blank-places.result
       c.pile.new.1.1.1.1.0 c.pile.result.pairs
   pairs p = c.pile.ensures.1 k (given p)
 
 -- pairs can be taken off
-peelable : (c : tie.After-peel-arg2) (k : List ℕ) → Asked (pile c) k
+peelable : (c : tie.After-peel-arg) (k : List ℕ) → Asked (pile c) k
     → Peelable k (start (pile c)).args.conflicts.now (pile c).pile.new.1.1.0 (pile c).pile.new.1.1.1.0
     c.before.before.before.before.blank-heights2.result (reverse (reduced k (plan (pile c) k)))
     (start (pile c)).args.lead.now
 peelable c k p =
     passed_peelable p (start (pile c)).args.lead.now ((pile c).pile.ensures.0 k (given (pile c) k p)).piled
-    c.before.before.before.before.blank-heights2.ensures (start (pile c)).requires.1.2.deep
+    c.before.before.before.before.blank-heights2.ensures (start (pile c)).requires.2.deep
 
 abbrev piled : tie.After-peel → tie.After-pile
 piled c = pile c.before
@@ -61,82 +63,71 @@ peeled c k p = c.peel.ensures k (reverse (reduced k (plan (piled c) k))) (peelab
 
 pile-requires : tie.Need-pile-requires
 pile-requires c κs =
-    let (e, (k, p, r)) = c.before.before.before.before.before.before.before.before.requires in (
+    let s = c.before.before.before.before.before.before.before.before.before in
+    let (k, p, r) = s.requires in (
       k,
-      passed_given p e c.before.before.before.before.blank-heights.ensures,
+      passed_given p c.before.before.before.before.before.blank_rows_lem.ensures
+          c.before.before.before.before.blank-heights.ensures,
       omega (arith, p.short, c.before.before.before.blank-places.ensures),
     )
 
 peel-requires : tie.Need-peel-requires
 peel-requires c κs =
-    let (k, p, r) = (start (pile c)).requires.1 in
+    let (k, p, r) = (start (pile c)).requires in
     (k, reverse (reduced k (plan (pile c) k)), peelable c k p)
 
 mul-paired : tie.Need-overflow-mul-paired
 mul-paired c =
     let o = piled c.before.before.before in
-    let (k, p, r) = (start o).pre.1 in
+    let (k, p, r) = (start o).pre in
     record { fits = omega (arith, pairs_few (pairs o k p) p) }
 
 array-share-prefix-places : tie.Need-array-share-prefix-places
 array-share-prefix-places c =
     let o = piled c.before.before.before in
-    let (k, p, r) = (start o).pre.1 in
+    let (k, p, r) = (start o).pre in
     pairs_fit (pairs o k p)
 
 slice-aggregate-letters-left : tie.Need-slice-aggregate-letters-left
 slice-aggregate-letters-left c =
     let o = piled c.before.before.before.before in
-    let (k, p, r) = (start o).pre.1 in
+    let (k, p, r) = (start o).pre in
     pairs_count (pairs o k p)
 
 slice-reshare-prefix-letters-left : tie.Need-slice-reshare-prefix-letters-left
 slice-reshare-prefix-letters-left c =
     let e = c.before.before.before.before in
-    let (k, p, r) = (start (piled e)).requires.1 in
+    let (k, p, r) = (start (piled e)).requires in
     peeled_fits (peeled e k p).1
 
 slice-aggregate-letters-left-2 : tie.Need-slice-aggregate-letters-left-2
 slice-aggregate-letters-left-2 c =
     let e = c.before.before.before.before.before in
-    let (k, p, r) = (start (piled e)).requires.1 in
+    let (k, p, r) = (start (piled e)).requires in
     peeled_count (peeled e k p).1
 
 letters-left-requires : tie.Need-letters-left-requires
 letters-left-requires c κs =
     let e = c.before.before.before.before.before.before in
-    let (k, p, r) = (start (piled e)).requires.1 in
+    let (k, p, r) = (start (piled e)).requires in
     let (z, d) = peeled e k p in
     (k, z, peeled_known (pairs (piled e) k p) p d, r.wide)
 
 returns : tie.Need-returns
 returns c =
-    let o = c.before.before.before in
-    let (q, s, r) = (start o).requires.1 in
-    let counted = o.pile.ensures.0 q (given o q s) in (
-      λ k p. none_letters k (plan o k) (omega (arith, (o.pile.ensures.0 k (given o k p)).count, c.if1.true)),
-      rw c.if1.true at (piled_low s counted),
-    )
-
-returns-2 : tie.Need-returns-2
-returns-2 c =
     let l = c.before.before in
     let e = l.before.before.before.before.before.before.before in
-    let o = piled e in
-    let (q, s, r) = (start o).pre.1 in (
-      λ k p.
-          let (z, d) = peeled e k p in
-          peeled_letters (plan o k) d (l.letters-left.ensures k z (peeled_known (pairs o k p) p d)),
-      piled_low s (o.pile.ensures.0 q (given o q s)),
-    )
+    λ k p.
+    let (z, d) = peeled e k p in
+    peeled_letters (plan (piled e) k) d
+    (l.letters-left.ensures k z (peeled_known (pairs (piled e) k p) p d))
 
 pub core-of-spec : {M : Type 1} → statement M
 core-of-spec =
     tie.close
     (tie.spec
-    (λ c κs. search rules) (λ c κs. search rules) (λ c. search rules)
+    (λ c κs. search rules) (λ c κs. search rules) (λ c κs. search rules) (λ c. search rules)
     pile-requires
-    returns
     (λ c κs. search rules)
     peel-requires
     mul-paired
@@ -146,4 +137,4 @@ core-of-spec =
     slice-aggregate-letters-left-2
     letters-left-requires
     (λ c. search rules) (λ c. search rules)
-    returns-2)
+    returns)

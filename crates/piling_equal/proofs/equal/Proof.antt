@@ -1,21 +1,16 @@
--- `piling_equal::equal` meets its contract: empty plans are the same, and else the longer plan is undone on the piling
--- of the shorter.
+-- `piling_equal::equal` meets its contract: the longer plan is undone on the piling of the shorter.
 use Prim.Native.Nat.{ℕ}
-use native.Mathlib.Omega.{arith}
-use mathlib.Core.Path.{refl, ap}
 use mathlib.Core.List.{List}
-use Rattle.spec.specs.Letters.{normal_form}
 use Rattle.piling_stacks.specs.Pile.{reduced}
 use Rattle.input_checks.specs.Passed.{Passed}
 use Rattle.piling_equal.specs.Comparing.{Opposed, shorter, longer}
 use Rattle.piling_equal.specs.EqualLaws.{passed_opposed, same_normal, longer_passed, chosen_normal}
-use Rattle.piling_equal.specs.EqualLaws.{both_empty}
 use borrow.Author.Rules.{rules}
 use Rattle.piling_equal.proofs.equal.Statement.{statement}
 use Rattle.piling_equal.proofs.equal.Tie as tie
 
 abbrev start : tie.After-pile-shorter → tie.Start
-start a = a.before.before.before.before.before.before.before.before.before.before
+start a = a.before.before.before.before.before.before.before.before.before
 
 -- the piling of the shorter plan, before the longer one
 module _ (a : tie.After-pile-shorter) (k : List ℕ) where
@@ -41,18 +36,8 @@ equals-longer-requires a κs =
     let p = (start a).requires in
     (p.0, word a p.0, opposed a p.0 p.1 p.2)
 
-add-if1 : tie.Need-overflow-add-if1
-add-if1 c =
-    let p = c.before.before.requires in
-    record { fits = omega (arith, p.1.short, p.2.short) }
-
 returns : tie.Need-returns
 returns c = λ k p q.
-    let s = c.before.before.before.args in
-    (λ e. ap (normal_form k) (both_empty s.v.now s.w.now (omega (arith, c.if1.true))), λ e. refl)
-
-returns-2 : tie.Need-returns-2
-returns-2 c = λ k p q.
     let a = c.before in
     let t = c.equals-longer.ensures k (word a k) (opposed a k p q) in
     let n = same_normal k (shorter (v a k) (w a k)) (longer (v a k) (w a k)) in
@@ -63,8 +48,6 @@ pub equal-spec : {M : Type 1} → statement M
 equal-spec =
     tie.close
     (tie.spec
-    add-if1
-    returns
     (λ c κs. search rules) (λ c κs. search rules) (λ c κs. search rules) (λ c κs. search rules)
     equals-longer-requires
-    returns-2)
+    returns)

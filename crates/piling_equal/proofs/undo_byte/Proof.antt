@@ -1,6 +1,5 @@
 -- `piling_equal::undo_byte` meets its contract.
 use native.Mathlib.Omega.{arith}
-use Rattle.array_lone.specs.LoneLaws.{lone_changeable}
 use Rattle.piling_stacks.specs.PilingLaws.{still_ready}
 use Rattle.piling_equal.specs.ComparingLaws.{undoable_range, undoable_facing, filler_undone, cut_undone}
 use Rattle.piling_equal.specs.ComparingLaws.{put_undone}
@@ -17,67 +16,59 @@ abbrev known : tie.After-cancel → tie.After-opposite
 known c = c.before.before.before.before
 
 returns : tie.Need-returns
-returns c = (λ k z u. filler_undone u c.if1.true, c.before.requires.4)
+returns c = λ k z u. filler_undone u c.if1.true
 
 sub-k : tie.Need-overflow-sub-k
 sub-k c = omega (arith, undoable_range c.before.requires.2 c.if1.false)
 
+element-copy-out-line : tie.Need-element-copy-out-line
+element-copy-out-line c = omega (arith, undoable_range c.before.requires.2 c.if1.false)
+
 opposite-requires : tie.Need-opposite-requires
-opposite-requires c κs = omega (arith, undoable_range c.before.requires.2 c.if1.false)
+opposite-requires c κs = omega (arith, undoable_range c.before.before.requires.2 c.before.if1.false)
 
 cancel-requires : tie.Need-cancel-requires
 cancel-requires c κs =
     let o = c.before.before.before in
-    let p = o.before.before.requires in
-    let g = undoable_facing p.2 o.before.if1.false o.opposite.ensures in
-    (p.0, p.1, g, lone_changeable p.2.table g.within p.3 p.4)
+    let p = o.before.before.before.requires in
+    (p.0, p.1, undoable_facing p.2 o.before.before.if1.false o.opposite.ensures)
 
 returns-2 : tie.Need-returns-2
-returns-2 c =
+returns-2 c = λ k z u.
     let o = known c.before in
-    let n = o.before.if1.left in
-    let e = o.opposite.ensures in (
-      λ k z u.
-          let told = c.before.cancel.ensures.0 k z (undoable_facing u n e) in
-          let (f, q) = told.gone c.if2.true in
-          cut_undone k _ _ z e n f q (told.newest c.if2.true),
-      c.before.cancel.ensures.1,
-    )
+    let n = o.before.before.if1.left in
+    let e = o.opposite.ensures in
+    let told = c.before.cancel.ensures k z (undoable_facing u n e) in
+    let (f, q) = told.gone c.if2.true in
+    cut_undone k _ _ z e n f q (told.newest c.if2.true)
 
 returns-3 : tie.Need-returns-3
-returns-3 c =
+returns-3 c = λ k z u.
     let a = c.before in
     let o = known a.before in
-    let n = o.before.if1.left in
-    let e = o.opposite.ensures in (
-      λ k z u.
-          let (f, q) = (a.before.cancel.ensures.0 k z (undoable_facing u n e)).none a.if2.false in
-          put_undone k _ _ z e n f (λ l. absurd (omega arith)),
-      a.before.cancel.ensures.1,
-    )
+    let n = o.before.before.if1.left in
+    let e = o.opposite.ensures in
+    let (f, q) = (a.before.cancel.ensures k z (undoable_facing u n e)).none a.if2.false in
+    put_undone k _ _ z e n f (λ l. absurd (omega arith))
 
 put-requires : tie.Need-put-requires
 put-requires c κs =
     let a = c.before.before.before.before in
     let o = known a.before in
-    let p = o.before.before.pre in
-    let g = undoable_facing p.2 o.before.if1.left o.opposite.ensures in
-    let (f, q) = (a.before.cancel.ensures.0 p.0 p.1 g).none a.if2.false in
-    let l = a.before.cancel.ensures.1 in
-    (p.0, p.1, still_ready (omega (arith, p.2.room)) g q, lone_changeable p.2.table g.within p.3 l)
+    let p = o.before.before.before.pre in
+    let g = undoable_facing p.2 o.before.before.if1.left o.opposite.ensures in
+    let (f, q) = (a.before.cancel.ensures p.0 p.1 g).none a.if2.false in
+    (p.0, p.1, still_ready (omega (arith, p.2.room)) g q)
 
 returns-4 : tie.Need-returns-4
-returns-4 c =
+returns-4 c = λ k z u.
     let a = else2 c in
     let o = known a.before in
-    let n = o.before.if1.left in
-    let e = o.opposite.ensures in (
-      λ k z u.
-          let g = undoable_facing u n e in
-          let (f, q) = (a.before.cancel.ensures.0 k z g).none a.if2.left in
-          put_undone k _ _ z e n f (λ l. c.put.ensures.0 k z (still_ready (omega (arith, u.room)) g q)),
-      c.put.ensures.1,
-    )
+    let n = o.before.before.if1.left in
+    let e = o.opposite.ensures in
+    let g = undoable_facing u n e in
+    let (f, q) = (a.before.cancel.ensures k z g).none a.if2.left in
+    put_undone k _ _ z e n f (λ l. c.put.ensures k z (still_ready (omega (arith, u.room)) g q))
 
 pub undo-byte-spec : {M : Type 1} → statement M
 undo-byte-spec =
@@ -86,6 +77,8 @@ undo-byte-spec =
     returns
     (λ c. omega arith)
     sub-k
+    (λ c. omega arith)
+    element-copy-out-line
     opposite-requires
     cancel-requires
     returns-2

@@ -9,10 +9,7 @@ use lib.ListN.{length, get_or, take}
 use borrow.Author.Rules.{rules}
 use Rattle.spec.specs.Byte.{command_of}
 use Rattle.spec.specs.Pairs.{left_of}
-use Rattle.array_words.specs.Words.{Held, Unless}
-use Rattle.array_lone.specs.LoneLaws.{lone_changeable}
 use Rattle.piling_stacks.specs.BlankLaws.{piled_blank}
-use Rattle.piling_stacks.specs.PilingLaws.{piled_small}
 use Rattle.piling_pairs.specs.PairingLaws.{Piling, piling_start, given_range, piling_stepping, piling_filler}
 use Rattle.piling_pairs.specs.PairingLaws.{piling_letters, piling_room, piling_letter, piling_counted}
 use Rattle.piling_pairs.specs.PairingLaws.{piling_pairs}
@@ -20,45 +17,31 @@ use Rattle.piling_pairs.proofs.pile.Statement.{statement}
 use Rattle.piling_pairs.proofs.pile.Tie as tie
 
 abbrev invariant-loop : tie.invariant-loop
-invariant-loop plan conflicts rows₀ heights₀ pairs₀ newest₀ below₀ held₀ sole read₀ n₀ i₀ rows heights pairs newest below
-    held read n i =
+invariant-loop plan conflicts rows₀ heights₀ pairs₀ newest₀ below₀ read₀ n₀ i₀ rows heights pairs newest below read n i =
     Piling plan conflicts rows₀ heights₀ pairs₀ rows heights newest below pairs read n i
-    × Unless sole (Held heights held)
 
 abbrev decreases-loop : tie.decreases-loop
-decreases-loop plan conflicts rows₀ heights₀ pairs₀ newest₀ below₀ held₀ sole read₀ n₀ i₀ rows heights pairs newest below
-    held read n i =
+decreases-loop plan conflicts rows₀ heights₀ pairs₀ newest₀ below₀ read₀ n₀ i₀ rows heights pairs newest below read n i =
     length plan - i
 
 -- places on the way
 
 abbrev start : tie.Then1 invariant-loop decreases-loop → tie.Start invariant-loop decreases-loop
-start c = c.before.before.before.before.before.before.before.before.before.before.before
+start c = c.before.before.before.before.before.before.before.before
 
-abbrev then-from-below : tie.After-below invariant-loop decreases-loop → tie.Then1 invariant-loop decreases-loop
-then-from-below c = c.before.before.before.before.before
+abbrev then-from-line2 : tie.After-line2 invariant-loop decreases-loop → tie.Then1 invariant-loop decreases-loop
+then-from-line2 c = c.before.before.before.before.before.before
 
 abbrev then-from-paired-arg : tie.After-paired-arg invariant-loop decreases-loop → tie.Then1 invariant-loop decreases-loop
-then-from-paired-arg c = then-from-below c.before.before
+then-from-paired-arg c = then-from-line2 c.before.before
 
 abbrev then-from-slice-known2 : tie.After-slice-known2 invariant-loop decreases-loop → tie.Then1 invariant-loop decreases-loop
 then-from-slice-known2 c = then-from-paired-arg c.before.before.before
 
-words-requires : tie.Need-words-requires invariant-loop decreases-loop
-words-requires c κs = piled_small c.before.before.before.before.before.requires.1.blank
-
-lone-for-requires : tie.Need-lone-for-requires invariant-loop decreases-loop
-lone-for-requires c κs =
-    let g = c.before.before.before.before.before.before.requires in
-    (g.0, g.1.table)
-
 loop-holds : tie.Need-loop-init invariant-loop decreases-loop
 loop-holds c =
-    let b = c.before.before.before in (
-      piling_start (ap length b.before.blank-heights.ensures ∙ (piled_blank []).shape.many)
-          (sym b.blank-places.ensures),
-      λ e. c.before.words.ensures,
-    )
+    piling_start (ap length c.before.blank-heights.ensures ∙ (piled_blank []).shape.many)
+    (sym c.blank-places.ensures)
 
 -- the command of a byte that is no filler
 range_at : (c : tie.Then1 invariant-loop decreases-loop) → let s = start c in
@@ -69,15 +52,10 @@ range_at c =
 
 push-requires : tie.Need-push-requires invariant-loop decreases-loop
 push-requires c κs =
-    let t = then-from-below c in
+    let t = then-from-line2 c in
     let g = (start t).pre in
     let h = t.before.before.before.loop in
-    let lone = t.before.before.before.before.lone-for.ensures in (
-      g.0,
-      left_of g.0 (take h.i _),
-      piling_stepping h.inv.0 (omega arith) t.if1.taken g.1,
-      lone_changeable g.1.table (omega (arith, range_at t)) lone h.inv.1,
-    )
+    (g.0, left_of g.0 (take h.i _), piling_stepping h.inv (omega arith) t.if1.taken g.1)
 
 cast-paired : tie.Need-overflow-cast-paired invariant-loop decreases-loop
 cast-paired c = omega (arith, (start (then-from-paired-arg c)).pre.1.short)
@@ -87,42 +65,39 @@ paired-requires c κs =
     let t = then-from-paired-arg c in
     let g = (start t).pre in
     let h = t.before.before.before.loop in
-    let s = piling_stepping h.inv.0 (omega arith) t.if1.taken g.1 in
-    let w = c.before.push.ensures.0 g.0 (left_of g.0 (take h.i _)) s in
-    λ e k. omega (arith, piling_room h.inv.0 (omega arith) g.1 g.2 w.tells e k, h.inv.0.long)
+    let s = piling_stepping h.inv (omega arith) t.if1.taken g.1 in
+    let w = c.before.push.ensures g.0 (left_of g.0 (take h.i _)) s in
+    λ e k. omega (arith, piling_room h.inv (omega arith) g.1 g.2 w.tells e k, h.inv.long)
 
 add_read : tie.Need-overflow-add-read invariant-loop decreases-loop
 add_read c =
     let t = then-from-slice-known2 c in
-    omega (arith, (piling_letters t.before.before.before.loop.inv.0 (start t).pre.1).1)
+    omega (arith, (piling_letters t.before.before.before.loop.inv (start t).pre.1).1)
 
 loop-again : tie.Need-loop-preserved invariant-loop decreases-loop
 loop-again c =
     let h = c.before.before.before.loop in
-    let g = c.before.before.before.before.before.before.before.before.before.before.before.requires in
-    let (p, s) = h.invariant in
+    let g = c.before.before.before.before.before.before.before.before.requires in
     ⊎_elim
-    (λ w. rw (w.11, w.12, w.13, w.14, w.15, w.16, w.17, w.18) (
-      piling_letter p (omega arith) w.0.taken g.2 w.6.ensures.0 w.8.ensures,
-      w.6.ensures.1,
-    ))
-    (λ w. rw (w.1, w.2, w.3, w.4, w.5, w.6, w.7, w.8) (piling_filler p (omega arith) w.0.left, s))
+    (λ w. rw (w.12, w.13, w.14, w.15, w.16, w.17, w.18)
+    (piling_letter h.invariant (omega arith) w.0.taken g.2 w.7.ensures w.9.ensures))
+    (λ w. rw (w.1, w.2, w.3, w.4, w.5, w.6, w.7) (piling_filler h.invariant (omega arith) w.0.left))
     c.if1.branch
 
 same_length : tie.Need-same-length invariant-loop decreases-loop
-same_length c = c.before.loop.invariant.0.long
+same_length c = c.before.loop.invariant.long
 
 -- twice the pairs are no more than the letters read
 few : (c : tie.After-loop invariant-loop decreases-loop) → let h = c.before.loop in (2 * h.n ≤ h.read) × (h.read ≤ 1024)
 few c =
     let h = c.before.loop in
-    let g = c.before.before.before.before.before.before.before.before.before.requires.1 in
-    let (e, l) = piling_letters h.invariant.0 g in
-    (omega arith, omega (arith, h.invariant.0.within, g.short))
+    let g = c.before.before.before.before.before.before.requires.1 in
+    let (e, l) = piling_letters h.invariant g in
+    (omega arith, omega (arith, h.invariant.within, g.short))
 
 returns : tie.Need-returns invariant-loop decreases-loop
 returns c =
-    let p = c.before.loop.invariant.0 in
+    let p = c.before.loop.invariant in
     (piling_counted p (omega arith), piling_pairs p (omega arith))
 
 pub pile-spec : {M : Type 1} → statement M
@@ -132,11 +107,10 @@ pile-spec =
     invariant-loop
     decreases-loop
     (λ c κs. search rules) (λ c κs. search rules)
-    words-requires
-    lone-for-requires
     loop-holds
     (λ c. omega arith)
-    (λ c. omega (arith, range_at c)) (λ c. omega (arith, range_at c))
+    (λ c. omega (arith, range_at c)) (λ c. omega (arith, range_at c)) (λ c. omega (arith, range_at c))
+    (λ c. omega (arith, range_at c))
     push-requires
     cast-paired
     paired-requires

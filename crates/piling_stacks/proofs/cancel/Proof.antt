@@ -3,7 +3,7 @@
 use Prim.Native.Nat.{◌≤◌}
 use native.Mathlib.Omega.{arith}
 use mathlib.Core.Path.{◌∙◌, sym}
-use mathlib.Core.List.{List, []}
+use mathlib.Core.List.{List}
 use lib.ListN.{get_or}
 use Rattle.theory_words.specs.Trace.{First}
 use Rattle.spec.specs.Byte.{undone}
@@ -19,17 +19,17 @@ use Rattle.piling_stacks.proofs.cancel.Tie as tie
 abbrev start-from-then2 : tie.Then2 → tie.Start
 start-from-then2 c = c.before.before.before.before.before
 
-abbrev start-from-lower-arg : tie.After-lower-arg2 → tie.Start
-start-from-lower-arg c = start-from-then2 c.before.before
+abbrev start-from-lower-arg : tie.After-lower-arg → tie.Start
+start-from-lower-arg c = c.before.before.before.before.before.before
 
 abbrev start-from-lower : tie.After-lower → tie.Start
-start-from-lower c = start-from-lower-arg c.before
+start-from-lower c = c.before.before.before.before.before.before.before
 
 high : (s : tie.Start) → get_or s.args.heights.now s.args.k 0 ≤ 1024
 high s = facing_high s.requires.2 s.args.k s.requires.2.within
 
 first-at : (c : tie.Then2) {k z : List _} → let a = (start-from-then2 c).args in
-    Facing k a.rows.now a.heights.now (get_or a.conflicts.now a.k []) a.k a.letter z
+    Facing k a.rows.now a.heights.now a.line.now a.k a.letter z
     → First (alphabet k) (undone a.letter) z
 first-at c r =
     top_first r (omega (arith, c.before.before.before.if1.true)) (c.if2.true ∙ c.before.opposite.ensures)
@@ -45,27 +45,21 @@ opposite-requires c κs = omega (arith, c.before.before.before.requires.2.own)
 
 lower-requires : tie.Need-lower-requires
 lower-requires c κs =
-    let p = (start-from-lower-arg c).requires in
-    (p.3, cut_room p.2 (first-at c.before.before p.2))
+    let r = (start-from-lower-arg c).requires.2 in
+    cut_room r (first-at c.before r)
 
 index-2-rows : tie.Need-bounds-2-rows
 index-2-rows c = omega (arith, high (start-from-lower c))
 
 returns : tie.Need-returns
-returns c = (
-  λ k z r. let f = first-at c.before.before.before r in gone_off f (cut_acts r f c.lower.ensures.0),
-  c.lower.ensures.1,
-)
+returns c = λ k z r. let f = first-at c.before.before r in gone_off f (cut_acts r f c.lower.ensures)
 
 returns-2 : tie.Need-returns-2
-returns-2 c = (
-  λ k z r. none_off r.piled (λ f. c.if2.false ((first_top r f).1 ∙ sym c.before.opposite.ensures)),
-  c.before.before.before.before.before.requires.3.kept,
-)
+returns-2 c = λ k z r.
+    none_off r.piled (λ f. c.if2.false ((first_top r f).1 ∙ sym c.before.opposite.ensures))
 
 returns-3 : tie.Need-returns-3
-returns-3 c =
-    (λ k z r. none_off r.piled (λ f. let (l, e) = first_top r f in omega arith), c.before.before.requires.3.kept)
+returns-3 c = λ k z r. none_off r.piled (λ f. let (l, e) = first_top r f in omega arith)
 
 pub cancel-spec : {M : Type 1} → statement M
 cancel-spec =

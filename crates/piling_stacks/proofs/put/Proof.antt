@@ -13,13 +13,13 @@ cast-h : tie.Need-overflow-cast-h
 cast-h c = omega (arith, room c.before)
 
 lift-requires : tie.Need-lift-requires
-lift-requires c κs = let p = c.before.before.before.requires in (p.3, put_room p.2.facing)
+lift-requires c κs = put_room c.before.before.requires.2.facing
 
 index-2-rows : tie.Need-bounds-2-rows
-index-2-rows c = room c.before.before.before.before
+index-2-rows c = room c.before.before.before
 
 returns : tie.Need-returns
-returns c = (λ k z r. put_piled r c.lift.ensures.0, c.lift.ensures.1)
+returns c = λ k z r. put_piled r c.lift.ensures
 
 pub put_spec : {M : Type 1} → statement M
 put_spec =
