@@ -1,5 +1,7 @@
 // 24 numbers gathered as the bits of one number, so that 24 tests are one.
 
+#![tactic(auto)]
+
 ghost use Rattle.spec.specs.Bits.{Gathered};
 
 // Bit k is set exactly if the number at index k is from low to high.

@@ -1,6 +1,8 @@
 // What is done with 24 numbers at a time, one for each command: heights of stacks, or counts. Its specs also say what
 // the first of 24 with a property is, and how many beads a letter puts on each stack.
 
+#![tactic(auto)]
+
 ghost use Rattle.std.specs.Prelude.{◌+◌, ◌-◌, ◌≤◌, ◌<◌, max, ◌≡◌};
 ghost use Rattle.array_counts.specs.Blank.{blank_heights, Ones};
 ghost use Rattle.array_counts.specs.Heights.{Both, Changed, without, at_least};

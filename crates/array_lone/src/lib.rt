@@ -1,5 +1,7 @@
 // Whether no command conflicts with another, so that a letter changes the stack of its own command alone.
 
+#![tactic(auto)]
+
 ghost use Rattle.std.specs.Prelude.{ℕ, ◌<◌, ◌≤◌, ◌≡◌, true, List};
 ghost use Rattle.input_chains.specs.Conflicts.{Conflicts};
 ghost use Rattle.array_lone.specs.Lone.{Bits, sum_to, Lone};

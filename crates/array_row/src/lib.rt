@@ -1,6 +1,8 @@
 // Long words built in a row: a word appended to what stands in it, as it is or undone, and a part of it undone where it
 // stands; whether two words are the same; and rows to work in.
 
+#![tactic(auto)]
+
 ghost use Rattle.std.specs.Prelude.{◌+◌, ◌≤◌, ◌≡◌, true, ◌↔◌, length};
 ghost use Rattle.array_row.specs.Row.{Appended, Undone};
 ghost use Rattle.spec.specs.Byte.{undo_of};

@@ -1,6 +1,8 @@
 // Sets of the commands 1 to 24. A set keeps for each command how many in the set it conflicts with. The set test,
 // whether a command is independent of every command in a set, compares its conflicts with the set as bits.
 
+#![tactic(auto)]
+
 ghost use Rattle.std.specs.Prelude.{◌<◌, ◌≡◌, true, ◌↔◌, [], get_or};
 ghost use Rattle.array_sets.specs.Sets.{In, Clear, Table, Meeting, Added, empty};
 

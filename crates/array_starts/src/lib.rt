@@ -1,5 +1,7 @@
 // Where a search for the next of 24 rows may start: a letter changes only the rows that conflict with its own.
 
+#![tactic(auto)]
+
 ghost use Rattle.std.specs.Prelude.{ℕ, List};
 ghost use Rattle.input_chains.specs.Conflicts.{Conflicts};
 ghost use Rattle.array_starts.specs.Starts.{Starts};

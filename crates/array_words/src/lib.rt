@@ -1,6 +1,8 @@
 // 24 numbers of 16 bits beside the same numbers in six words of 64 bits, four to a word. Where the words are locals of
 // a loop they stay in registers: 24 numbers in memory alone would make each change of them wait for the one before.
 
+#![tactic(auto)]
+
 ghost use Rattle.std.specs.Prelude.{◌+◌, ◌-◌, ◌<◌, ◌≤◌, ◌≡◌, [], length, get_or, replicate};
 ghost use Rattle.array_counts.specs.Heights.{Both, Changed};
 ghost use Rattle.array_words.specs.Words.{four, word_at, Fits, Combined, Spread, Written};

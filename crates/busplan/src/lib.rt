@@ -3,6 +3,8 @@
 // table; a refusal changes nothing that was lent. The crate spec defines what each call answers (specs/Calls.antt,
 // specs/Slots.antt, specs/Precedence.antt, specs/Loops.antt) and states what that is worth (specs/Demands.antt).
 
+#![tactic(auto)]
+
 mod console;
 
 pub use call_catalogue::read_catalogue;

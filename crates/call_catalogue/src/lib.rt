@@ -1,5 +1,7 @@
 // The call that reads a catalogue. The crate spec defines what it answers (specs/Calls.antt).
 
+#![tactic(auto)]
+
 ghost use Rattle.std.specs.Prelude.{◌≡◌};
 ghost use Rattle.spec.specs.Answers.{told_catalogue};
 ghost use Rattle.spec.specs.Calls.{catalogue_answer, catalogue_table};

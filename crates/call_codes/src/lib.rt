@@ -1,6 +1,8 @@
 // The numbers that the table gives the reasons of refusals, and those that a C caller gets for the answers of the
 // calls. spec/specs/Table.antt and spec/specs/Codes.antt define them.
 
+#![tactic(auto)]
+
 ghost use Rattle.std.specs.Prelude.{ℕ, ◌+◌, ◌<◌, ◌^◌, ◌≡◌, pos, neg_ℤ};
 ghost use Rattle.spec.specs.Table.{number_of};
 ghost use Rattle.spec.specs.declared.Written.TheVariants.{Length};

@@ -1,5 +1,7 @@
 // The call that compares the effects of two plans. The crate spec defines what it answers (specs/Calls.antt).
 
+#![tactic(auto)]
+
 ghost use Rattle.std.specs.Prelude.{◌≡◌};
 ghost use Rattle.spec.specs.Answers.{told_equality};
 ghost use Rattle.spec.specs.Calls.{equal_answer};

@@ -1,6 +1,8 @@
 // The call that tells what is wrong with a catalogue and its plans. The crate spec defines what it answers
 // (specs/Fault.antt).
 
+#![tactic(auto)]
+
 ghost use Rattle.std.specs.Prelude.{◌≡◌};
 ghost use Rattle.spec.specs.Answers.{told_fault};
 ghost use Rattle.spec.specs.Fault.{fault_answer};

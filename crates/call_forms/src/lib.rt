@@ -1,6 +1,8 @@
 // The calls that write a form of a plan: its normal form, or its core in normal form. The crate spec defines what each
 // answers (specs/Calls.antt).
 
+#![tactic(auto)]
+
 ghost use Rattle.std.specs.Prelude.{◌≡◌, length};
 ghost use Rattle.spec.specs.Table.{line_of, line};
 ghost use Rattle.spec.specs.Answers.{told_written, told_normal_form};

@@ -1,6 +1,8 @@
 // The call that checks a lead-in: it writes the normal forms of v·u and u·w and tells whether they are the same. The
 // crate spec defines what it answers (specs/Loops.antt).
 
+#![tactic(auto)]
+
 ghost use Rattle.std.specs.Prelude.{◌≡◌};
 ghost use Rattle.spec.specs.Table.{given};
 ghost use Rattle.spec.specs.Answers.{told_lead_in};

@@ -1,6 +1,8 @@
 // The call that decides whether two loops are joined, and writes a lead-in. The crate spec defines what it answers
 // (specs/Loops.antt).
 
+#![tactic(auto)]
+
 ghost use Rattle.std.specs.Prelude.{◌≡◌};
 ghost use Rattle.spec.specs.Answers.{told_loops};
 ghost use Rattle.spec.specs.Loops.{Looped};

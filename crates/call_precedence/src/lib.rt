@@ -1,6 +1,8 @@
 // The precedence check: whether letters of a normal form stay before others. The crate spec defines what it answers
 // (specs/Precedence.antt).
 
+#![tactic(auto)]
+
 ghost use Rattle.std.specs.Prelude.{◌≡◌};
 ghost use Rattle.spec.specs.Table.{line_of, line};
 ghost use Rattle.spec.specs.Answers.{told_precedence};

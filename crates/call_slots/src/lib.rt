@@ -1,6 +1,8 @@
 // The slots call: the normal form of a plan with a slot beside each letter. The crate spec defines what it answers
 // (specs/Slots.antt).
 
+#![tactic(auto)]
+
 ghost use Rattle.std.specs.Prelude.{◌≡◌};
 ghost use Rattle.spec.specs.Answers.{told_slots};
 ghost use Rattle.spec.specs.Slots.{slots_answer, slots_area, slots_numbers};

@@ -3,6 +3,8 @@
 // library says, then what the solver says. A case agrees only if the library says the same of its catalogue written in
 // the second edition. The crate cases_table says what a line of the table looks like.
 
+#![tactic(auto)]
+
 mod ask;
 
 ghost use Rattle.std.specs.Prelude.{◌≤◌, ◌≡◌, length};

@@ -1,6 +1,8 @@
 // The pairs of many plans at random, those that the library tells beside those of the solver; then the same with
 // catalogues, plans and areas that are damaged, of which most are refused.
 
+#![tactic(auto)]
+
 mod compare;
 
 ghost use Rattle.std.specs.Prelude.{◌<◌, ◌≤◌};

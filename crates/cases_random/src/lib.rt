@@ -1,5 +1,7 @@
 // Catalogues and plans at random, and damage to them, for the programs that put many to the library.
 
+#![tactic(auto)]
+
 mod catalogue;
 mod damage;
 mod plan;

@@ -3,6 +3,8 @@
 // verdict (1 for yes, 0 for no, 2 for a yes that is not borne out; of two loops with the rounds behind it) or a refusal
 // as the crate cases_solver has it.
 
+#![tactic(auto)]
+
 mod areas;
 mod library;
 mod pairs;

@@ -3,6 +3,8 @@
 // of two bytes each, low byte first, then the bytes of a catalogue and of two plans. Reading ends where a call is cut
 // short, or where a size is larger than its buffer. tests/rounds.sh compares the lines with those of a second solver.
 
+#![tactic(auto)]
+
 ghost use Rattle.std.specs.Prelude.{◌≤◌, ◌≡◌, length};
 
 use spec::{Loops, Refusal};

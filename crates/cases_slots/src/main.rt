@@ -1,6 +1,8 @@
 // Slots and the precedence check: many short plans at random, with what the library says of them beside what the solver
 // says; then the same with catalogues, plans, areas and lists of places that are damaged, of which most are refused.
 
+#![tactic(auto)]
+
 mod compare;
 mod list;
 

@@ -1,6 +1,8 @@
 // A second opinion on the bench cases, which knows nothing of the library but the specification: words are rewritten
 // letter by letter, with no piling and no row of beads.
 
+#![tactic(auto)]
+
 mod arranging;
 mod catalogue;
 mod conjugacy;

@@ -5,6 +5,8 @@
 // commands of v conflict), n (normal form), p (its pairs), s (its slots), o (precedence: whether its letters stay in
 // the order of the places w), c (core), e (equal), l (loops), f (fault) or j (whether u leads from v to w).
 
+#![tactic(auto)]
+
 ghost use Rattle.std.specs.Prelude.{◌<◌};
 
 use cases_solver::at;

@@ -2,6 +2,8 @@
 // library: a line a row, with the plan written out or the refusal. It says so if the call on the fault of a text tells
 // another one. The module row says what a row looks like; one that does not is told, and the program stops there.
 
+#![tactic(auto)]
+
 mod report;
 mod row;
 

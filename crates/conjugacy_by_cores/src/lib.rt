@@ -1,6 +1,8 @@
 // The lead-in between two plans from their cores, in a row that is lent: the letters taken off in front of the first
 // core, the lead-in from core to core, and the letters taken off in front of the second core, undone.
 
+#![tactic(auto)]
+
 ghost use Rattle.std.specs.Prelude.{ℕ, ◌≤◌, List, length};
 ghost use Rattle.conjugacy_by_cores.specs.Join.{Cores, word_room, WordOutcome, FormRoom, PlansOutcome};
 

@@ -1,5 +1,7 @@
 // Whether commands, told by 24 flags, all conflict with each other. No two letters of them can then be swapped.
 
+#![tactic(auto)]
+
 ghost use Rattle.std.specs.Prelude.{ℕ, ◌<◌, ◌≡◌, true, List, ◌↔◌, get_or};
 ghost use Rattle.theory_conjugacy.specs.Clique.{Clique};
 ghost use Rattle.spec.specs.Letters.{alphabet};

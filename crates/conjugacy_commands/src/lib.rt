@@ -1,5 +1,7 @@
 // The commands that occur in a word of letters, as 24 flags, and whether the same occur in two words.
 
+#![tactic(auto)]
+
 ghost use Rattle.std.specs.Prelude.{ℕ, ◌+◌, ◌<◌, ◌≡◌, true, List, ◌↔◌};
 ghost use Rattle.theory_words.specs.All.{All};
 ghost use Rattle.theory_conjugacy.specs.Part as Part;

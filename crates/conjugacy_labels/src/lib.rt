@@ -1,6 +1,8 @@
 // The label of each command that occurs in a word: the largest command of its part. Labels of commands that conflict
 // are merged until each part has one.
 
+#![tactic(auto)]
+
 ghost use Rattle.std.specs.Prelude.{ℕ, ◌+◌, ◌<◌, ◌≡◌, List, eqb, length};
 ghost use Rattle.theory_conjugacy.specs.Part as Part;
 ghost use Rattle.spec.specs.Letters.{alphabet};

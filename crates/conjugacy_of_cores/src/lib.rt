@@ -1,6 +1,8 @@
 // Whether two cores are joined, and the lead-in from one to the other: the lead-ins of their parts, one after the
 // other, behind what stands in a row.
 
+#![tactic(auto)]
+
 ghost use Rattle.std.specs.Prelude.{ℕ, ◌+◌, ◌-◌, ◌<◌, ◌≡◌, List};
 ghost use Rattle.spec.specs.Letters.{alphabet};
 ghost use Rattle.theory_conjugacy.specs.Part.{apexes};

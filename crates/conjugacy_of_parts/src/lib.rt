@@ -2,6 +2,8 @@
 // settling the first cycles, the ring up to the place at which the rings agree, and the letters that settling the
 // second cycles, undone.
 
+#![tactic(auto)]
+
 ghost use Rattle.std.specs.Prelude.{ℕ, ◌≡◌, List, [], ◌∷◌, ◌++◌, take};
 ghost use Rattle.conjugacy_of_parts.specs.Parts.{RingsRoom, RingsOutcome, Partable, PartsOutcome};
 

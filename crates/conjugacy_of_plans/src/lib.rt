@@ -1,6 +1,8 @@
 // Whether two plans that have passed their checks are joined, and the lead-in from one to the other, in normal form at
 // the start of the area: their cores are found, and a row is chosen in which the lead-in is put together.
 
+#![tactic(auto)]
+
 ghost use Rattle.std.specs.Prelude.{ℕ, List};
 ghost use Rattle.conjugacy_by_cores.specs.Join.{Plans, Cores, PlansRoom, PlansOutcome};
 

@@ -1,5 +1,7 @@
 // The ring of one part of a core: the part is settled on its apex, and the settled word put in normal form.
 
+#![tactic(auto)]
+
 ghost use Rattle.std.specs.Prelude.{ℕ, ◌≤◌, List, length};
 ghost use Rattle.spec.specs.Letters.{normal_form};
 ghost use Rattle.array_row.specs.Area.{StartsWith};

@@ -1,5 +1,7 @@
 // The search for a rotation: the first starting place at which one ring, read round, is another.
 
+#![tactic(auto)]
+
 ghost use Rattle.std.specs.Prelude.{ℕ, ◌≡◌, List};
 ghost use Rattle.spec.specs.Letters.{alphabet};
 ghost use Rattle.theory_conjugacy.specs.Rotation.{rotation};

@@ -1,6 +1,8 @@
 // How many rounds the parts of a core need, where no ring is asked for. A row is worked in behind a place, and what
 // stands before that place is kept.
 
+#![tactic(auto)]
+
 ghost use Rattle.std.specs.Prelude.{ℕ, ◌+◌, ◌-◌, ◌<◌, ◌≤◌, max, ◌≡◌, true, List, ◌∷◌, [], ◌↔◌, get_or};
 ghost use Rattle.conjugacy_settled_parts.specs.PartOf.{PartOf};
 ghost use Rattle.conjugacy_rounds.specs.Apexes.{Apex, apex_at, apexes_from, NextApex, LoneApex};

@@ -1,5 +1,7 @@
 // One part of a core, settled on its apex.
 
+#![tactic(auto)]
+
 ghost use Rattle.std.specs.Prelude.{ℕ, ◌≤◌, List, length};
 ghost use Rattle.conjugacy_settled_parts.specs.PartOf.{PartOf, SettledOf};
 

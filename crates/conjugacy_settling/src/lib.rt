@@ -1,6 +1,8 @@
 // Settling a word on its apex: the manual's rounds, each a split of the word whose upper half then comes before the
 // lower one. The letters that the rounds cycle are written out one round after the other.
 
+#![tactic(auto)]
+
 ghost use Rattle.std.specs.Prelude.{ℕ, List, length, take};
 ghost use Rattle.conjugacy_settling.specs.Halving.{Place, Placed, Splittable, Halved};
 ghost use Rattle.conjugacy_settling.specs.Settling.{Settleable, Ended};

@@ -1,6 +1,8 @@
 // A caller of the library: prints how many letters the normal form of (1, 3, -1) has under the manual's catalogue K,
 // and the places of the two letters that cancelled.
 
+#![tactic(auto)]
+
 fn show(letters: usize, earlier: u16, later: u16) {
     io::print_decimal(1, letters as u64);
     io::write_all(1, b" letter left; these places cancelled: ");

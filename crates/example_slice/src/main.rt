@@ -1,5 +1,7 @@
 // A caller that hands on what a call has written: the bytes of the normal form of (1, 3, -1), to standard output.
 
+#![tactic(auto)]
+
 fn show(catalogue: &[u8], plan: &[u8], area: &mut [u8], places: &mut [u16]) {
     let formed = busplan::normal_form(catalogue, plan, area, places);
     if let busplan::NormalForm::Written { length, pairs: _ } = formed {

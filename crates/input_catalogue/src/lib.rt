@@ -1,6 +1,8 @@
 // The form of a catalogue, of either edition: `check` decides lines 1, 2, 17, 3 and 4 of the manual's table for any
 // bytes, each line over the whole catalogue before the next. The crate spec states the lines (specs/Catalogue.antt).
 
+#![tactic(auto)]
+
 ghost use Rattle.std.specs.Prelude.{◌≡◌};
 ghost use Rattle.spec.specs.Table.{line, number_of, refused as refused_by};
 ghost use Rattle.input_catalogue.specs.Checked.{told_checked};

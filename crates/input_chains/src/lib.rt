@@ -1,6 +1,8 @@
 // One chain of a catalogue: `walk` follows it and marks two commands, of which one stands in the chain of the other, in
 // the rows of both; `mark_like` marks a command as a chain that was walked before.
 
+#![tactic(auto)]
+
 ghost use Rattle.std.specs.Prelude.{◌≡◌, true, [], get_or, ◌+◌, ◌-◌, ◌≤◌};
 ghost use Rattle.spec.specs.Catalogue.{commands, records, head, ends, chain};
 ghost use Rattle.input_layout.specs.Laid.{Laid};

@@ -2,6 +2,8 @@
 // carries the number of commands, and the rows then hold the conflicts. `small_area` is the refusal of an area, which
 // comes after.
 
+#![tactic(auto)]
+
 ghost use Rattle.std.specs.Prelude.{ℕ, ◌≡◌, List, ◌++◌};
 ghost use Rattle.std.proofs.Math.Option.{Option};
 ghost use Rattle.spec.specs.Table.{Line, line, line_of};

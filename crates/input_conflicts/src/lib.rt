@@ -1,6 +1,8 @@
 // Reading a catalogue of either edition: `read` decides lines 1 to 6 and 17 of the manual's table for any bytes and,
 // where none holds, leaves the conflicts in the rows. A chain that several commands have is walked once.
 
+#![tactic(auto)]
+
 ghost use Rattle.std.specs.Prelude.{◌≡◌, true, ◌+◌, ◌-◌, ◌<◌, ◌≤◌, length};
 ghost use Rattle.std.proofs.Math.Option.{none};
 ghost use Rattle.spec.specs.Catalogue.{commands, records, head, ends, endless_line, own_line};

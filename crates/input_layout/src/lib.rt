@@ -2,6 +2,8 @@
 // and the heads and records are then read at the places that it gives. The crate spec defines both editions
 // (specs/Layout.antt).
 
+#![tactic(auto)]
+
 ghost use Rattle.std.specs.Prelude.{ℕ, ◌+◌, ◌<◌, ◌≤◌, ◌≡◌, List, length};
 ghost use Rattle.spec.specs.Layout.{byte_at, pair_at, layout as layoutIn};
 ghost use Rattle.spec.specs.Catalogue.{commands, records, head_place, command_place, head, command, next};

@@ -1,6 +1,8 @@
 // Plans of bytes: `check` decides lines 7 and 8 of the manual's table for any bytes of any length, and `undo` gives
 // the byte that undoes another.
 
+#![tactic(auto)]
+
 ghost use Rattle.std.specs.Prelude.{◌<◌, ◌≡◌, true, ◌↔◌, length};
 ghost use Rattle.spec.specs.Table.{or_else, first_line};
 ghost use Rattle.input_catalogue.specs.Checked.{told_checked};

@@ -1,5 +1,7 @@
 // The products v·u and u·w of plans v and w and a lead-in u, in normal form, and whether they are equal.
 
+#![tactic(auto)]
+
 ghost use Rattle.std.specs.Prelude.{ℕ, List};
 ghost use Rattle.long_equal.specs.Comparing.{Comparable, Compared};
 

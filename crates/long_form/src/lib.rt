@@ -1,6 +1,8 @@
 // The normal form of a long word: the word is reduced on stacks, and the stacks are read off. Their links are as many
 // as a word of its length needs, so that a short word clears little.
 
+#![tactic(auto)]
+
 ghost use Rattle.std.specs.Prelude.{ℕ, ◌≡◌, List, length};
 ghost use Rattle.spec.specs.Letters.{normal_form};
 ghost use Rattle.array_row.specs.Area.{StartsWith};

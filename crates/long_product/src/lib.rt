@@ -1,5 +1,7 @@
 // The product of two words, one behind the other, in normal form: worked out in a row that is as long as it needs be.
 
+#![tactic(auto)]
+
 ghost use Rattle.std.specs.Prelude.{ℕ, ◌+◌, ◌≤◌, List, length};
 ghost use Rattle.long_product.specs.Product.{Concatenated, Factors, Multiplied};
 

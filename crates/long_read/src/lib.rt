@@ -1,6 +1,8 @@
 // Reading the stacks of a long word off: its letters in order, each time the top of the first stack that has a letter
 // on top.
 
+#![tactic(auto)]
+
 ghost use Rattle.std.specs.Prelude.{ℕ, List};
 ghost use Rattle.array_counts.specs.First.{NoneBelow, FirstWith};
 ghost use Rattle.array_row.specs.Area.{ReadOff};

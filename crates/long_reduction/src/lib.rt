@@ -1,6 +1,8 @@
 // The reduction of a long word, in time linear in its length: its letters are put on stacks from its right end, each
 // cutting its undo off if that is on top.
 
+#![tactic(auto)]
+
 ghost use Rattle.std.specs.Prelude.{ℕ, ◌+◌, List, length};
 ghost use Rattle.long_reduction.specs.Reducing.{Reducing};
 

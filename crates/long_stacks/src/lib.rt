@@ -3,6 +3,8 @@
 // was under each letter. Heights are written 24 at a time, by `lift` and `lower` alone: a single one written in between
 // would make the processor wait.
 
+#![tactic(auto)]
+
 ghost use Rattle.long_stacks.specs.Moves.{Puttable, Put, Cuttable, Cut};
 
 use array_counts::{lift, lower};

@@ -2,6 +2,8 @@
 // The crate spec says which answer an input gets, what is well framed and what is printed (specs/Program.antt,
 // specs/Framing.antt, specs/Listing.antt).
 
+#![tactic(auto)]
+
 ghost use Rattle.std.specs.Prelude.{◌≡◌, ◌≤◌, length, take};
 ghost use Rattle.spec.specs.Table.{line, line_of};
 ghost use Rattle.io.specs.Counts.{IsPrefixLen};

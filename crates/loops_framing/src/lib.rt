@@ -1,6 +1,8 @@
 // The input of the program loops: a catalogue of either edition, then two plans, each behind a count in two bytes, low
 // byte first, and nothing after. The crate spec says what is well framed and where the parts lie (specs/Framing.antt).
 
+#![tactic(auto)]
+
 ghost use Rattle.std.specs.Prelude.{◌+◌, ◌≤◌, ◌≡◌};
 ghost use Rattle.spec.specs.Framing.{plan_end};
 ghost use Rattle.loops_framing.specs.Frame.{frame};

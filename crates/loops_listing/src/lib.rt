@@ -1,6 +1,8 @@
 // What the program loops prints: a heading, then one line for its verdict. The crate spec states the text
 // (specs/Listing.antt).
 
+#![tactic(auto)]
+
 ghost use Rattle.std.specs.Prelude.{◌+◌, ◌≤◌, length, take};
 ghost use Rattle.io.specs.Counts.{IsPrefixLen};
 ghost use Rattle.spec.specs.Listing.{Decimal, Shows, told_verdict, Printed};

@@ -1,5 +1,7 @@
 // Bytes of an area repeated or undone where they stand, and a command undone or not.
 
+#![tactic(auto)]
+
 ghost use Rattle.std.specs.Prelude.{◌+◌, ◌*◌, ◌-◌, ◌≤◌, ◌≡◌, length, take, drop};
 ghost use Rattle.spec.specs.Notation.{repeated, signed_byte, signed_plan};
 ghost use Rattle.array_row.specs.Row.{Appended};

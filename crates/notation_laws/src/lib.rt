@@ -1,1 +1,3 @@
 // The laws of the notation. There is no code here: see specs/.
+
+#![tactic(auto)]

@@ -1,6 +1,8 @@
 // How long the plan is that a sequence writes out, cut off past 1,024, and its first command above N, in one pass: a
 // reader of sequences and a reader of items that call each other, at most as deep as brackets nest.
 
+#![tactic(auto)]
+
 ghost use Rattle.std.specs.Prelude.{◌*◌, ◌≤◌, ◌<◌, ◌≡◌, true, length, drop};
 ghost use Rattle.spec.specs.Plan.{passes};
 ghost use Rattle.spec.specs.Notation.{tokens, first as first_of};

@@ -1,6 +1,8 @@
 // What has begun in a text that is read from left to right, token by token, and whether any ending could mend it. The
 // crate spec states it (specs/Scanner.antt).
 
+#![tactic(auto)]
+
 ghost use Rattle.std.specs.Prelude.{◌≡◌};
 ghost use Rattle.spec.specs.Notation.{closing};
 ghost use Rattle.notation_tokens.specs.Told.{told_token};

@@ -1,6 +1,8 @@
 // What stands at a place of a text: whether a sequence goes on there, a blank, a bracket, a minus, a number.
 // The crate notation_laws defines each over the tokens left (specs/Here.antt).
 
+#![tactic(auto)]
+
 ghost use Rattle.std.specs.Prelude.{◌+◌, ◌≡◌, drop};
 ghost use Rattle.spec.specs.Answers.{yes_no};
 ghost use Rattle.spec.specs.Notation.{tokens};

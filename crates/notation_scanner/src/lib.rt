@@ -1,6 +1,8 @@
 // Lines 13 and 14 for a text of any length, in one pass from left to right: what has begun and how many brackets are
 // open is all that is kept, so nothing recurs. The crate spec states the lines (specs/WriteOut.antt).
 
+#![tactic(auto)]
+
 ghost use Rattle.std.specs.Prelude.{◌+◌, ◌^◌, ◌<◌, ◌≡◌, [], ◌∷◌, length};
 ghost use Rattle.spec.specs.Table.{or_else, first_line};
 ghost use Rattle.spec.specs.Notation.{first};

@@ -1,5 +1,7 @@
 // What a byte of a text is. The crate spec states it (specs/Notation.antt).
 
+#![tactic(auto)]
+
 ghost use Rattle.std.specs.Prelude.{◌≡◌};
 ghost use Rattle.spec.specs.Notation.{token_of};
 ghost use Rattle.notation_tokens.specs.Told.{told_token};

@@ -2,6 +2,8 @@
 // a text. The crate spec defines what each answers (specs/WriteOut.antt). Catalogues and commands are judged by the
 // checks that every other call goes through.
 
+#![tactic(auto)]
+
 ghost use Rattle.std.specs.Prelude.{◌≡◌, [], ◌∷◌};
 ghost use Rattle.spec.specs.Table.{first_line, or_else};
 ghost use Rattle.spec.specs.Answers.{told_written, told_fault};

@@ -2,6 +2,8 @@
 // items that call each other. A group is measured first, since its count stands behind it; then it is written once and
 // copied, and a minus undoes the whole where it stands.
 
+#![tactic(auto)]
+
 ghost use Rattle.std.specs.Prelude.{◌≤◌, ◌<◌, ◌≡◌, true, length, drop};
 ghost use Rattle.spec.specs.Notation.{tokens};
 ghost use Rattle.notation_laws.specs.Here.{goes_on};

@@ -1,6 +1,8 @@
 // The core of what is left of a piling: pairs, a letter at the bottom of a row and its undo at the top, are taken off
 // until no row has one.
 
+#![tactic(auto)]
+
 ghost use Rattle.std.specs.Prelude.{ℕ, ◌≤◌, ◌≡◌, true, List, ◌↔◌, length};
 ghost use Rattle.array_counts.specs.First.{FirstWith};
 ghost use Rattle.piling_read.specs.Reading.{Room};

@@ -1,6 +1,8 @@
 // The core of a plan that has passed its checks, its letters in the order of the plan, with the letters taken off in
 // front of it: the plan is piled up, pairs are taken off, and the letters left are copied. Nothing is read off.
 
+#![tactic(auto)]
+
 ghost use Rattle.std.specs.Prelude.{ℕ, List};
 ghost use Rattle.input_checks.specs.Passed.{Passed};
 ghost use Rattle.piling_core_letters.specs.CoreLetters.{Room, CoreLetters};

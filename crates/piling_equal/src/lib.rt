@@ -1,6 +1,8 @@
 // Whether two plans that have passed their checks have the same normal form: one is piled up, the letters of the other
 // are undone on the piling from the last to the first, and they are equal exactly if nothing is left.
 
+#![tactic(auto)]
+
 ghost use Rattle.std.specs.Prelude.{ℕ, ◌≡◌, true, List, reverse, ◌↔◌, length};
 ghost use Rattle.theory_words.specs.Group.{◌≈◌};
 ghost use Rattle.spec.specs.Letters.{alphabet, letters, normal_form};

@@ -1,6 +1,8 @@
 // The normal form of a plan that has passed its checks, or that of its core: the plan is piled up, pairs are taken off
 // where the core is wanted, and what is left is read off. A piling is a local array of rows beside an array of heights.
 
+#![tactic(auto)]
+
 ghost use Rattle.std.specs.Prelude.{ℕ, ◌≤◌, ◌≡◌, List, length};
 ghost use Rattle.array_row.specs.Area.{StartsWith};
 ghost use Rattle.input_checks.specs.Passed.{Passed};

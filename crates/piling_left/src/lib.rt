@@ -1,6 +1,8 @@
 // The letters left of a plan, in the order of the plan: those that cancelled are blanked, and of each command as many
 // are taken off in front, and as many behind, as pairs were taken off.
 
+#![tactic(auto)]
+
 ghost use Rattle.std.specs.Prelude.{ℕ, ◌≤◌, ◌<◌, ◌≡◌, List, [], reverse, length};
 ghost use Rattle.theory_words.specs.All.{All};
 ghost use Rattle.piling_left.specs.Left.{blanked, total, trimmed, Tallied, Closed, TakenOff, Known, Left};

@@ -1,5 +1,7 @@
 // A plan piled up from left to right, and the places of its letters that cancel with each other.
 
+#![tactic(auto)]
+
 ghost use Rattle.std.specs.Prelude.{ℕ, ◌+◌, ◌*◌, ◌<◌, ◌≤◌, ◌≡◌, List, length, get_or, set};
 ghost use Rattle.std.proofs.Math.Option.{some};
 ghost use Rattle.spec.specs.Pairs.{Placed, placed, partner};

@@ -1,6 +1,8 @@
 // Reading a piling off: its letters in order, taken off the bottoms of its stacks. The next is each time the lowest
 // bead of the first row whose lowest bead is no blank.
 
+#![tactic(auto)]
+
 ghost use Rattle.std.specs.Prelude.{ℕ, List};
 ghost use Rattle.array_row.specs.Area.{ReadOff};
 ghost use Rattle.array_counts.specs.First.{NoneBelow, FirstWith};

@@ -1,6 +1,8 @@
 // The piling of a plan: one stack of beads for each command. A letter cancels with its undo on top of the stack of its
 // own command, or puts its byte there and a 0 on each other stack whose command conflicts with it.
 
+#![tactic(auto)]
+
 ghost use Rattle.std.specs.Prelude.{ℕ, ◌<◌, ◌≡◌, List, ◌∷◌};
 ghost use Rattle.spec.specs.Byte.{command_of, undone};
 ghost use Rattle.piling_stacks.specs.Blank.{blank_rows};

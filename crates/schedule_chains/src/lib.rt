@@ -1,6 +1,8 @@
 // Whether a chain of conflicting letters leads from one letter of a word to another: one scan from the first to the
 // second, with the set of the commands that a chain has reached.
 
+#![tactic(auto)]
+
 ghost use Rattle.std.specs.Prelude.{ℕ, ◌<◌, ◌≡◌, List, length};
 ghost use Rattle.spec.specs.Precedence as Precedence;
 ghost use Rattle.schedule_chains.specs.Following.{Followable, Follow, Followed};

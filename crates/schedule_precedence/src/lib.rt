@@ -1,6 +1,8 @@
 // Places in a word, taken two by two: whether each names a letter, and whether the first letter of each pair stays
 // before the second.
 
+#![tactic(auto)]
+
 ghost use Rattle.std.specs.Prelude.{ℕ, ◌*◌, ◌<◌, ◌≡◌, List, length};
 ghost use Rattle.std.proofs.Math.Option.{none};
 ghost use Rattle.spec.specs.Precedence.{places_line, all_lead};

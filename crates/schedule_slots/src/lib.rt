@@ -1,6 +1,8 @@
 // The slots of the letters of a word. For each command the smallest slot is kept that the letters so far leave to a
 // letter of it.
 
+#![tactic(auto)]
+
 ghost use Rattle.std.specs.Prelude.{ℕ, List};
 ghost use Rattle.schedule_slots.specs.Numbering.{Numberable, SlotsOf};
 

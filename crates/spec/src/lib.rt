@@ -2,6 +2,8 @@
 // manual says (docs/MANUAL.md), with the statements of the demands (specs/Demands.antt). The crate spec_laws proves
 // those statements.
 
+#![tactic(auto)]
+
 // The lines of the manual's table, in the order of their numbers (docs/MANUAL.md, "Refusals"). Number 10 is retired and
 // not used again (specs/Retired.antt).
 #[derive(Drop)]
