@@ -132,6 +132,7 @@ in_without {i} (j ∷ js) (Memᴰ.tail m) =
     go : (k : ℕ) (ks : List ℕ) → (k ∈ js → k ∈ ks) → k ∈ j ∷ js → k ∈ j ∷ ks
     go k ks f (Memᴰ.head e) = Memᴰ.head e
     go k ks f (Memᴰ.tail n) = Memᴰ.tail (f n)
+in_without {i = i} [] x' = elim x' [ ]
 
 pub within_length : (is js : List ℕ) → Ascending is → Within is js → length is ≤ length js
 within_length [] js a f = omega arith

@@ -101,10 +101,12 @@ module _ (Γ : Alphabet) where
   pub occurs_apart : (c : Letter) (w : Word Γ) → Apart Γ c w → (k : ℕ) → Occurs k w → conf (cmd c) k ≡ false
   occurs_apart c (a ∷ w) h k (now e) = ap (conf (cmd c)) e ∙ h.0
   occurs_apart c (a ∷ w) h k (later o) = occurs_apart c w h.1 k o
+  occurs_apart c [] h k x'' = elim x'' [ ]
 
   pub all_occurs : (P : ℕ → Type 0) (w : Word Γ) → All (λ a. P (cmd a)) w → (k : ℕ) → Occurs k w → P k
   all_occurs P (a ∷ w) h k (now e) = subst P (sym e) h.0
   all_occurs P (a ∷ w) h k (later o) = all_occurs P w h.1 k o
+  all_occurs P [] h k x'' = elim x'' [ ]
 
   pub occurs_all : (P : ℕ → Type 0) (w : Word Γ) → ((k : ℕ) → Occurs k w → P k) → All (λ a. P (cmd a)) w
   occurs_all P [] f = tt

@@ -62,7 +62,7 @@ module _ (Γ : Alphabet) (m : ℕ) where
 
   pub split_along : {R : List ℕ} {v w p q : Word Γ} → v ~ w → Split Γ m R v p q → Halved R w p q
   split_along done stop = ([], [], stop, done, done)
-  split_along (cons {a = a} e) (up h s) = let (x, y, t, f, g) = split_along e s in (x, a ∷ y, up h t, f, cons g)
+  split_along {R = R} (cons {a = a} e) (up h s) = let (x, y, t, f, g) = split_along {R = cmd a ∷ R} e s in (x, a ∷ y, up h t, f, cons g)
   split_along (cons {a = a} e) (low h s) = let (x, y, t, f, g) = split_along e s in (a ∷ x, y, low h t, cons f, g)
   split_along (swap d) s = split_swap d s
   split_along (next d e) s =

@@ -145,14 +145,14 @@ module _ (Γ : Alphabet) where
       → Labelled ks (merge_row Γ i js lab)
   unfolding merge_row
   row_labelled i [] mi f h = h
-  row_labelled i (j ∷ js) mi f h = row_labelled i js mi (λ k m. f k (Memᴰ.tail m))
+  row_labelled {lab = lab} i (j ∷ js) mi f h = row_labelled {lab = merge Γ i j lab} i js mi (λ k m. f k (Memᴰ.tail m))
       (merge_labelled h i j mi (f j (Memᴰ.head refl)))
 
   all_labelled : {ks : List ℕ} {lab : ℕ → ℕ} (is js : List ℕ) → Within is ks → Within js ks → Labelled ks lab
       → Labelled ks (merge_all Γ is js lab)
   unfolding merge_all
   all_labelled [] js f g h = h
-  all_labelled (i ∷ is) js f g h = all_labelled is js (λ k m. f k (Memᴰ.tail m)) g
+  all_labelled {lab = lab} (i ∷ is) js f g h = all_labelled {lab = merge_row Γ i js lab} is js (λ k m. f k (Memᴰ.tail m)) g
       (row_labelled i js (f i (Memᴰ.head refl)) g h)
 
   start_labelled : (ks : List ℕ) → Labelled ks (λ k. k)
@@ -198,6 +198,7 @@ module _ (Γ : Alphabet) where
   row_one lab {j} i (k ∷ js) (Memᴰ.head e) c =
       row_kept (merge Γ i k lab) i j i js (merge_one lab i k (ap (conf i) (sym e) ∙ c) ∙ ap (merge Γ i k lab) (sym e))
   row_one lab i (k ∷ js) (Memᴰ.tail m) c = row_one (merge Γ i k lab) i js m c
+  row_one lab {j = j} i [] x'' c = elim x'' [ ]
 
   all_one : (lab : ℕ → ℕ) {i j : ℕ} (is js : List ℕ) → i ∈ is → j ∈ js → conf i j ≡ true
       → merge_all Γ is js lab i ≡ merge_all Γ is js lab j
@@ -206,6 +207,7 @@ module _ (Γ : Alphabet) where
       all_kept (merge_row Γ k js lab) i j is js
       (ap (merge_row Γ k js lab) e ∙ row_one lab k js n (ap (λ l. conf l j) (sym e) ∙ c))
   all_one lab (k ∷ is) js (Memᴰ.tail m) n c = all_one (merge_row Γ k js lab) is js m n c
+  all_one lab {i = i} {j = j} [] js x3 n c = elim x3 [ ]
 
   pub labels_one : (ks : List ℕ) {i j : ℕ} → i ∈ ks → j ∈ ks → conf i j ≡ true → labels Γ ks i ≡ labels Γ ks j
   unfolding labels

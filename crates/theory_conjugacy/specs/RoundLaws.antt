@@ -77,8 +77,8 @@ module _ (Γ : Alphabet) (m : ℕ) where
       → Covers Γ p x × Independent Γ x q
   split_behind [] {p = p} {x = x} {y = y} stop s =
       ((λ k o. occurs_along Γ (~_sym Γ (split_~ Γ m s)) (occurs_left Γ y o)), (λ i j o u. absurd (occurs_nil Γ u)))
-  split_behind (b ∷ q) {x = x} (up h k) (up i s) =
-      let (f, g) = split_behind q k s in
+  split_behind {R = R} (b ∷ q) {x = x} (up h k) (up i s) =
+      let (f, g) = split_behind {R = cmd b ∷ R} q k s in
       (f, (λ i j o u. go i j o (occurs_apart Γ b x (split_apart Γ m b s) i o) (g i j o) u))
     where
       go : (i j : ℕ) → Occurs Γ i x → conf (cmd b) i ≡ false → (Occurs Γ j q → conf i j ≡ false) → Occurs Γ j (b ∷ q)

@@ -93,6 +93,7 @@ module _ (Γ : Alphabet) where
   unfolding most_rounds
   most_rounds_most (k ∷ ms) x (Memᴰ.head e) = omega (arith, ap (λ j. part_rounds Γ j x) e)
   most_rounds_most (k ∷ ms) x (Memᴰ.tail i) = omega (arith, most_rounds_most ms x i)
+  most_rounds_most {m = m} [] x x3 = elim x3 [ ]
 
   most_rounds_some : (k : ℕ) (ms : List ℕ) (x : Word Γ)
       → (m : ℕ) × (m ∈ k ∷ ms) × (part_rounds Γ m x ≡ most_rounds Γ (k ∷ ms) x)

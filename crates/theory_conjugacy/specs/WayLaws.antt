@@ -37,7 +37,7 @@ module _ (Γ : Alphabet) where
   run_along e (stop d) = stop (next e d)
   run_along e (step {a = a} p k) =
       let (s, q, f) = pick_along Γ (~_sym Γ e) p in
-      step q (run_along (~_after Γ (~_sym Γ f) (a ∷ [])) k)
+      step q (run_along {x = s ++ a ∷ []} (~_after Γ (~_sym Γ f) (a ∷ [])) k)
 
   pub run_append : {x f y g z : Word Γ} → Run Γ x f y → Run Γ y g z → Run Γ x (f ++ g) z
   run_append (stop e) l = run_along e l

@@ -27,8 +27,8 @@ module _ (Γ : Alphabet) where
 
   leads_along : {b : Letter} {k : ℕ} {v w : Word Γ} → v ~ w → Leads Γ b k v → Leads Γ b k w
   leads_along (cons e) (ends t) = ends t
-  leads_along (cons e) (over t l) = over t (leads_along e l)
-  leads_along (cons e) (past l) = past (leads_along e l)
+  leads_along (cons {a = a} e) (over t l) = over t (leads_along {k = cmd a} e l)
+  leads_along {k = k} (cons e) (past l) = past (leads_along {k = k} e l)
   leads_along (swap d) (ends t) = past (ends t)
   leads_along (swap d) (over t (ends s)) = absurd (true≢false (sym s ∙ d))
   leads_along (swap d) (over t (over s l)) = absurd (true≢false (sym s ∙ d))
@@ -37,6 +37,7 @@ module _ (Γ : Alphabet) where
   leads_along (swap d) (past (over t l)) = over t (past l)
   leads_along (swap d) (past (past l)) = past (past l)
   leads_along (next e f) l = leads_along f (leads_along e l)
+  leads_along {b = b} {k = k} Trace.done l = elim l [ ]
 
   pub linked_along : {a b : Letter} {v w : Word Γ} → v ~ w → Linked Γ a b v → Linked Γ a b w
   linked_along (cons e) (from l) = from (leads_along e l)
@@ -47,6 +48,7 @@ module _ (Γ : Alphabet) where
   linked_along (swap d) (later (from l)) = from (past l)
   linked_along (swap d) (later (later l)) = later (later l)
   linked_along (next e f) l = linked_along f (linked_along e l)
+  linked_along {a = a} {b = b} Trace.done l = elim l [ ]
 
   -- chains in a word behind another
 

@@ -14,6 +14,7 @@ module _ {A : Type 0} (P : A → Type 0) where
   pub all_mem : (w : List A) {a : A} → All w → Memᴰ a w → P a
   all_mem (b ∷ w) h (Memᴰ.head e) = subst P (sym e) h.0
   all_mem (b ∷ w) h (Memᴰ.tail m) = all_mem w h.1 m
+  all_mem [] {a = a} h x'' = elim x'' [ ]
 
   pub all_by : (w : List A) → ((a : A) → Memᴰ a w → P a) → All w
   all_by [] f = tt

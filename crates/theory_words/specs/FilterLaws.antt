@@ -108,6 +108,7 @@ module _ {A : Type 0} where
     unfolding filter
     mem_filter (a ∷ w) (Memᴰ.head e) t = keep_if_head a (filter f w) e (ap f (sym e) ∙ t)
     mem_filter (a ∷ w) (Memᴰ.tail m) t = keep_if_tail (f a) a (filter f w) (mem_filter w m t)
+    mem_filter {c = c} [] x'' t = elim x'' [ ]
 
     pub filter_mem : {c : A} (w : List A) → Memᴰ c (filter f w) → Memᴰ c w × (f c ≡ true)
     filter_mem w m =

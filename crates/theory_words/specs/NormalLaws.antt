@@ -121,6 +121,7 @@ module _ (Γ : Alphabet) where
           let ((r, p), t) = ih k in
           let (d, u) = or_neither (conf (cmd c) (cmd a)) (meets Γ (cmd c) js) t in
           ((a ∷ r, there d p), u)
+  firsts_can {c = c} js [] m = elim m [ ]
 
   pub firsts_has : {c : Letter} {w r : Word Γ} → Pick Γ c w r → (js : List ℕ) → meets Γ (cmd c) js ≡ false
       → Memᴰ c (firsts Γ js w)

@@ -77,6 +77,7 @@ module _ (Γ : Alphabet) where
       let (s, q, g) = pick_along e p in
       let (t, o, h) = pick_along f q in
       (t, o, next g h)
+  pick_along {c = c} {r = r} done p = elim p [ ]
 
   pub pick_same : {c d : Letter} {w r s : Word Γ} → c ≡ d → Pick Γ c w r → Pick Γ d w s → r ≡ s
   pick_same e here here = refl

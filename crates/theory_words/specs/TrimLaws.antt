@@ -63,19 +63,19 @@ module _ (Γ : Alphabet) where
   trims_nothing e (off {a = a} l t) = absurd (omega (arith, e (cmd a), l.own))
 
   -- a letter that can come first is the first of its command
-  trims_pick : {n m : ℕ → ℕ} {a : Letter} {x r y : Word Γ} → Pick Γ a x r → Less n (cmd a) m → Trims Γ n x y
+  trims_pick : {a : Letter} {n m : ℕ → ℕ} {x r y : Word Γ} → Pick Γ a x r → Less n (cmd a) m → Trims Γ n x y
       → Trims Γ m r y
   trims_pick here l (keep z t) = absurd (omega (arith, z, l.own))
-  trims_pick {m = m} {a = a} here l (off {m = o} k t) = trims_same (λ j. go j (ℕ_discrete j (cmd a))) t
+  trims_pick {a = a} {m = m} here l (off {m = o} k t) = trims_same (λ j. go j (ℕ_discrete j (cmd a))) t
     where
       go : (j : ℕ) → Dec (j ≡ cmd a) → o j ≡ m j
       go j (yes e) = rw e (omega (arith, l.own, k.own))
       go j (no e) = sym (k.others j e) ∙ l.others j e
   trims_pick {a = a} (there {b = b} d p) l (keep z t) =
       keep (sym (l.others (cmd b) (λ e. true≢false (sym (dep-cmd Γ (sym e)) ∙ d))) ∙ z) (trims_pick p l t)
-  trims_pick {a = a} (there {b = b} d p) l (off k t) =
+  trims_pick {a = a} (there {b = b} d p) l (off {m = m'} k t) =
       let (o, f, g) = less_two (λ e. true≢false (sym (dep-cmd Γ (sym e)) ∙ d)) k l in
-      off f (trims_pick p g t)
+      off f (trims_pick {n = m'} p g t)
 
   pub trims_front : (g r : Word Γ) {x y : Word Γ} → x ~ (g ++ r) → Trims Γ (tally Γ g) x y → y ~ r
   unfolding tally
