@@ -8,7 +8,7 @@ use crate::report::AREA;
 use cases_solver::at;
 
 // What was read: the two numbers, and the place where the text begins; or no row.
-#[derive(Drop)]
+#[derive(Clone, Copy)]
 pub struct Row {
     pub is_row: bool,
     pub first: usize,

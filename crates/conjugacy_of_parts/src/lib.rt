@@ -13,7 +13,7 @@ use conjugacy_rotation::{Start, rotation};
 use conjugacy_rounds::larger;
 
 // Two loops are joined, by a lead-in that ends here, or apart; and the most rounds that a part took.
-#[derive(Drop)]
+#[derive(Clone, Copy)]
 pub enum Outcome {
     Joined { end: usize, rounds: usize },
     Apart { rounds: usize },

@@ -11,7 +11,7 @@ ghost use Rattle.conjugacy_rotation.specs.Stride.{Ahead, Stride};
 use array_row::same_bytes;
 
 // Where the reading starts.
-#[derive(Drop)]
+#[derive(Clone, Copy)]
 pub enum Start {
     At(usize),
     Nowhere,

@@ -9,7 +9,7 @@ use array_row::{append, sheet};
 use conjugacy_settling::settle;
 
 // How many letters a part has, the end of the letters that settling it cycled, and how many rounds that took.
-#[derive(Drop)]
+#[derive(Clone, Copy)]
 pub struct Ends {
     pub letters: usize,
     pub cycled: usize,

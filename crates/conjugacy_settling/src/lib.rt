@@ -11,14 +11,14 @@ use array_row::append;
 use array_sets::{add, contains, independent, none};
 
 // Where the halves of a split end: the lower one in the word, the upper one in high.
-#[derive(Drop)]
+#[derive(Clone, Copy)]
 struct Halves {
     low: usize,
     high: usize,
 }
 
 // The end of the letters that settling cycled, and how many rounds it took.
-#[derive(Drop)]
+#[derive(Clone, Copy)]
 pub struct Settled {
     pub end: usize,
     pub rounds: usize,

@@ -14,7 +14,7 @@ use input_layout::{Layout, command_of, command_place, head_of, head_place, next_
 use spec::{Reason, Refusal};
 
 // What a check of one input finds: it passes, with the number that the caller goes on with, or it is refused.
-#[derive(Drop)]
+#[derive(Clone, Copy)]
 pub enum Checked {
     Passed(usize),
     Refused(Refusal),

@@ -10,7 +10,7 @@ ghost use Rattle.spec.specs.Catalogue.{commands, records, head_place, command_pl
 ghost use Rattle.input_layout.specs.Laid.{Laid, Framed};
 
 // N and R, and how many bytes an index takes: one in the first edition, two in the second.
-#[derive(Drop)]
+#[derive(Clone, Copy)]
 pub struct Layout {
     pub commands: usize,
     pub records: usize,

@@ -14,7 +14,7 @@ use input_catalogue::{Checked, refused};
 use spec::Reason;
 
 // Where a byte stands that does not pass.
-#[derive(Drop)]
+#[derive(Clone, Copy)]
 enum Place {
     Nowhere,
     At(usize),

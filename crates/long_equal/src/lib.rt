@@ -9,7 +9,7 @@ use array_row::same_bytes;
 use long_product::product;
 
 // Whether the two normal forms are equal, and their lengths.
-#[derive(Drop)]
+#[derive(Clone, Copy)]
 pub struct Both {
     pub same: bool,
     pub vu: usize,

@@ -10,13 +10,13 @@ ghost use Rattle.loops_framing.specs.Frame.{frame};
 use input_layout::{layout_of, pair_at, size_of};
 
 // Where the counts of the two plans stand; the catalogue lies before the first.
-#[derive(Drop)]
+#[derive(Clone, Copy)]
 pub struct Places {
     pub first: usize,
     pub second: usize,
 }
 
-#[derive(Drop)]
+#[derive(Clone, Copy)]
 pub enum Frame {
     Badly,
     Well(Places),

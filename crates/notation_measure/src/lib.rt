@@ -13,14 +13,14 @@ ghost use Rattle.notation_measure.specs.Measured.{Grouped, CommandNumber, Comman
 use input_catalogue::Checked;
 
 // How many bytes of the text are left at the first digit of a command above N, if there is one.
-#[derive(Drop)]
+#[derive(Clone, Copy)]
 pub enum Above {
     Nothing,
     Left(usize),
 }
 
 // A part of a text: the length of what it writes out, at most 1,025; its first command above N; the place behind it.
-#[derive(Drop)]
+#[derive(Clone, Copy)]
 pub struct Measure {
     pub size: usize,
     pub above: Above,

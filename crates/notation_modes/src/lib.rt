@@ -12,7 +12,7 @@ use notation_tokens::Token;
 
 // What has begun: nothing, a minus, a number so far, a group that is closed, its count so far. Wrong: no ending could
 // mend the text any more.
-#[derive(Drop)]
+#[derive(Clone, Copy)]
 pub enum Mode {
     Free,
     Signed,

@@ -13,7 +13,7 @@ ghost use Rattle.notation_parts.specs.Numbers.{NumberRead};
 use notation_tokens::{Token, token_of};
 
 // A number, and the place behind its digits.
-#[derive(Drop)]
+#[derive(Clone, Copy)]
 pub struct Number {
     pub value: usize,
     pub end: usize,

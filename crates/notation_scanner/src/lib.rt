@@ -16,14 +16,14 @@ use notation_modes::{Mode, after_token, may_end};
 use notation_tokens::{Token, token_of};
 use spec::Reason;
 
-#[derive(Drop)]
+#[derive(Clone, Copy)]
 enum Place {
     Nowhere,
     At(usize),
 }
 
 // Where a text is wrong, and its first bracket that nests too deep. Of a text that is wrong, only that counts.
-#[derive(Drop)]
+#[derive(Clone, Copy)]
 struct Faults {
     wrong: Place,
     deep: Place,

@@ -7,7 +7,7 @@ ghost use Rattle.spec.specs.Notation.{token_of};
 ghost use Rattle.notation_tokens.specs.Told.{told_token};
 
 // A digit carries its value.
-#[derive(Drop)]
+#[derive(Clone, Copy)]
 pub enum Token {
     Blank,
     Opening,

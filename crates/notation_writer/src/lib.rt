@@ -12,7 +12,7 @@ ghost use Rattle.notation_writer.specs.Writing.{Room, Wrote, WrotePart};
 use notation_copy::{repeat, signed, undo_if};
 
 // Where reading and writing have come to.
-#[derive(Drop)]
+#[derive(Clone, Copy)]
 pub struct Reached {
     pub at: usize,
     pub to: usize,

@@ -8,7 +8,7 @@ ghost use Rattle.input_checks.specs.Passed.{Passed};
 ghost use Rattle.piling_core_letters.specs.CoreLetters.{Room, CoreLetters};
 
 // The number of the core's letters, and that of the letters taken off in front.
-#[derive(Drop)]
+#[derive(Clone, Copy)]
 pub struct Cored {
     pub core: usize,
     pub lead: usize,

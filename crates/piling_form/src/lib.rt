@@ -11,7 +11,7 @@ ghost use Rattle.piling_pairs.specs.Pairing.{PairsOf};
 ghost use Rattle.piling_form.specs.Coring.{form, Whole, Remains};
 
 // The length of the form, and the number of the pairs that cancelled.
-#[derive(Drop)]
+#[derive(Clone, Copy)]
 pub struct Formed {
     pub form: usize,
     pub pairs: usize,

@@ -13,7 +13,7 @@ ghost use Rattle.piling_pairs.specs.Pairing.{Noted, PairsOf};
 use piling_stacks::{cancel, put};
 
 // What a letter did: it was put on, or it cancelled with the letter at an earlier place.
-#[derive(Drop)]
+#[derive(Clone, Copy)]
 pub enum Step {
     Put,
     Cancelled(u16),
@@ -79,7 +79,7 @@ pub fn push(
 }
 
 // The letters left of a plan, and the pairs that have cancelled.
-#[derive(Drop)]
+#[derive(Clone, Copy)]
 pub struct Reduction {
     pub letters: usize,
     pub pairs: usize,

@@ -6,7 +6,7 @@
 
 // The lines of the manual's table, in the order of their numbers (docs/MANUAL.md, "Refusals"). Number 10 is retired and
 // not used again (specs/Retired.antt).
-#[derive(Drop)]
+#[derive(Clone, Copy)]
 pub enum Reason {
     CatalogueSize,
     CommandCount,
@@ -28,7 +28,7 @@ pub enum Reason {
 
 // plan is 1, 2 or 3 in the order given, and 0 for the catalogue, for areas and for places. place counts from 0: it is
 // that of a byte, the number of an area, or that of a pair of places.
-#[derive(Drop)]
+#[derive(Clone, Copy)]
 pub struct Refusal {
     pub reason: Reason,
     pub plan: u8,
@@ -36,14 +36,14 @@ pub struct Refusal {
 }
 
 // A catalogue that was read: its number of commands. The lent table tells which of them conflict.
-#[derive(Drop)]
+#[derive(Clone, Copy)]
 pub enum Catalogue {
     Commands(usize),
     Refused(Refusal),
 }
 
 // The length of a plan that stands at the start of the area.
-#[derive(Drop)]
+#[derive(Clone, Copy)]
 pub enum Written {
     Length(usize),
     Refused(Refusal),
@@ -51,13 +51,13 @@ pub enum Written {
 
 // A normal form: its length, where it stands at the start of the area, and the number of pairs of places whose letters
 // cancelled with each other, which stand at the start of the second area.
-#[derive(Drop)]
+#[derive(Clone, Copy)]
 pub enum NormalForm {
     Written { length: usize, pairs: usize },
     Refused(Refusal),
 }
 
-#[derive(Drop)]
+#[derive(Clone, Copy)]
 pub enum Equality {
     Yes,
     No,
@@ -66,7 +66,7 @@ pub enum Equality {
 
 // Two loops: joined, by a lead-in of this length that stands at the start of the area, or apart; and the largest number
 // of rounds that settling a part of either core takes.
-#[derive(Drop)]
+#[derive(Clone, Copy)]
 pub enum Loops {
     Joined { length: usize, rounds: usize },
     Apart { rounds: usize },
@@ -74,14 +74,14 @@ pub enum Loops {
 }
 
 // The lengths of the normal forms of v·u and u·w, which stand at the starts of the two areas.
-#[derive(Drop)]
+#[derive(Clone, Copy)]
 pub struct Lengths {
     pub vu: usize,
     pub uw: usize,
 }
 
 // Whether u is a lead-in from v to w.
-#[derive(Drop)]
+#[derive(Clone, Copy)]
 pub enum LeadIn {
     Yes(Lengths),
     No(Lengths),
@@ -90,14 +90,14 @@ pub enum LeadIn {
 
 // A normal form with a slot beside each letter: its length, where it stands at the start of the area and the slots at
 // the start of the second area, and how many different slots there are.
-#[derive(Drop)]
+#[derive(Clone, Copy)]
 pub enum Slots {
     Numbered { length: usize, in_use: usize },
     Refused(Refusal),
 }
 
 // Whether the first letter of each pair stays before the second.
-#[derive(Drop)]
+#[derive(Clone, Copy)]
 pub enum Precedence {
     Yes,
     No,
@@ -105,7 +105,7 @@ pub enum Precedence {
 }
 
 // What is wrong with a catalogue and its plans: nothing, or what a call with them is refused for.
-#[derive(Drop)]
+#[derive(Clone, Copy)]
 pub enum Fault {
     Nothing,
     Found(Refusal),
@@ -113,7 +113,7 @@ pub enum Fault {
 
 // What the program says: two loops are joined and their core has so many letters, or they are apart, or the input is
 // refused.
-#[derive(Drop)]
+#[derive(Clone, Copy)]
 pub enum Verdict {
     Joined(usize),
     Apart,

@@ -41,6 +41,7 @@ Fresh i t = All (λ x. ¬ (i ≡ x.place)) t
 fresh_not : {i : ℕ} (t : List Placed) → Fresh i t → ¬ Memᴰ i (places_of t)
 fresh_not (x ∷ t) h (Memᴰ.head e) = h.0 e
 fresh_not (x ∷ t) h (Memᴰ.tail m) = fresh_not t h.1 m
+fresh_not {i = i} [] h x'' = elim x'' [ ]
 
 -- no two letters of t have one place
 abbrev pub Distinct : List Placed → Type 0
@@ -81,11 +82,13 @@ mem_within : {j : ℕ} (i : ℕ) (z : List ℕ) → Memᴰ j (places_of (placed_
 unfolding placed_from
 mem_within i (b ∷ z) (Memᴰ.head e) = omega arith
 mem_within i (b ∷ z) (Memᴰ.tail m) = let (l, h) = mem_within (suc i) z m in omega arith
+mem_within {j = j} i [] x' = elim x' [ ]
 
 before_within : {i j : ℕ} (k : ℕ) (z : List ℕ) → Before i j (places_of (placed_from k z)) → (i < j) × (j < k + length z)
 unfolding placed_from
 before_within k (b ∷ z) (now m) = let (l, h) = mem_within (suc k) z m in omega arith
 before_within k (b ∷ z) (later s) = let (l, h) = before_within (suc k) z s in omega arith
+before_within {i = i} {j = j} k [] x' = elim x' [ ]
 
 pub stays_within : (c z : List ℕ) {i j : ℕ} → StaysBefore c z i j → (i < j) × (j < length z)
 stays_within c z s = let (l, h) = before_within 0 z (s (placed_from 0 z) same) in omega arith

@@ -89,9 +89,10 @@ module _ (c : List ℕ) where
         link l h (rw (← s, a) t)
     leads_chain n (b ∷ w) e (over t k) i l s =
         let (h, a, r) = rest_head z n e in
-        on l (rw (← s, a) t) (leads_chain (suc n) w r k n (le_refl (suc n)) (ap command_of (sym a)))
+        on l (rw (← s, a) t) (leads_chain {k = command_of b} (suc n) w r k n (le_refl (suc n)) (ap command_of (sym a)))
     leads_chain n (b ∷ w) e (past k) i l s =
         leads_chain (suc n) w (rest_head z n e).2 k i (omega arith) s
+    leads_chain {y = y} {k = k} n [] e x4 i l s = elim x4 [ ]
 
     chain_stays : {i j : ℕ} → Chain c z i j → StaysBefore c z i j
     chain_stays {i} {j} k t r =
