@@ -1,6 +1,6 @@
 -- A text read from left to right, token by token: what it says, or where no ending could mend it any more. This
 -- computes what Notation states; NotationDemand (Demands) says that it is exact, so nothing here has to be believed.
-use Rattle.std.specs.Prelude.{ℕ, zero, suc, ◌+◌, ◌*◌, Bool, true, false, ◌&&◌, List, [], ◌∷◌, length, leb, eqb}
+use Rattle.std.specs.Prelude.{ℕ, suc, ◌+◌, ◌*◌, Bool, true, false, ◌&&◌, List, [], ◌∷◌, length, leb, eqb}
 use Rattle.std.proofs.Math.Option.{Option, none, some}
 use Rattle.spec.specs.Catalogue.{within}
 use Rattle.spec.specs.Notation.{Token, blank, opening, closing, minus, digit, other}

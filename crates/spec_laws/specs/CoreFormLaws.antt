@@ -1,6 +1,6 @@
 -- What the core call writes is the plan's core as the manual words it over plans: pairs that swaps alone bring to the
 -- ends of a plan are those that the core of its word is found by.
-use Rattle.std.specs.Prelude.{ℕ, ◌+◌, ◌≤◌, ◌≡◌, true, List, [], ◌∷◌, ◌++◌, length}
+use Rattle.std.specs.Prelude.{ℕ, ◌≤◌, ◌≡◌, true, List, [], ◌∷◌, ◌++◌, length}
 use Rattle.std.proofs.Common.{◌∙◌, subst, append-nil, append_assoc, arith, length-append}
 use Rattle.theory_words.specs.All.{all_along, all_left, all_append}
 use Rattle.theory_words.specs.Trace as Trace
