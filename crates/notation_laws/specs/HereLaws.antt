@@ -74,6 +74,7 @@ module _ {n : ℕ} where
       go {s = []} p e i b = absurd (false≢true b)
       go {s = blank ∷ s} nothing e i b = absurd e
       go {s = blank ∷ s} (space p) e i b = (here_of p e i, refl, refl)
+      go {s = blank ∷ s} (plain p) e i b = elim p [ ]
       go {s = opening ∷ s} p e i b = absurd (false≢true b)
       go {s = closing ∷ s} p e i b = absurd (false≢true b)
       go {s = minus ∷ s} p e i b = absurd (false≢true b)
@@ -159,9 +160,11 @@ module _ {n : ℕ} where
       go {s = closing ∷ s} p e i g b o = absurd (false≢true g)
       go {s = minus ∷ s} nothing e i g b o = absurd e
       go {s = minus ∷ s} (signed p) e i g b o = command_item p e i o
+      go {s = minus ∷ s} (plain p) e i g b o = elim p [ ]
       go {s = digit d ∷ s} nothing e i g b o = absurd e
       go {s = digit d ∷ s} (plain p) e i g b o = command_item p e i o
       go {s = other ∷ s} nothing e i g b o = absurd e
+      go {s = other ∷ s} (plain p) e i g b o = elim p [ ]
 
   pub here_group : {s : List Token} (h : Here s n) → is_opening (past_minus s) ≡ true
       → GroupFirst (is_minus s) (drop 1 (past_minus s)) h.rest h.says n
@@ -176,5 +179,6 @@ module _ {n : ℕ} where
       go {s = closing ∷ s} p e i o = absurd (false≢true o)
       go {s = minus ∷ s} nothing e i o = absurd e
       go {s = minus ∷ s} (signed p) e i o = group_item p e i o
+      go {s = minus ∷ s} (plain p) e i o = elim p [ ]
       go {s = digit d ∷ s} p e i o = absurd (false≢true o)
       go {s = other ∷ s} p e i o = absurd (false≢true o)
