@@ -8,6 +8,7 @@ ghost use Rattle.array_counts.specs.Blank.{blank_heights, Ones};
 ghost use Rattle.array_counts.specs.Heights.{Both, Changed, without, at_least};
 
 // A zero in each place: the heights of empty stacks.
+#[tactic(auto, unfolding(crate::specs::Blank::blank_heights))]
 pub fn blank_heights() -> [u16; 24]
     ensures { result ≡ blank_heights }
 {
@@ -46,6 +47,7 @@ pub fn lower(heights: &mut [u16; 24], line: &[u16; 24])
 }
 
 // Of zeros and ones, leaves a one only where the line has none.
+#[tactic(auto, unfolding(crate::specs::Heights::without))]
 pub fn clear(free: &mut [u16; 24], line: &[u16; 24])
     requires { Both (λ f n. n ≤ 1) free.old line.now }
     ensures { Changed without line.now free.old free.new }
