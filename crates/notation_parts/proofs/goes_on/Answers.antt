@@ -1,0 +1,7 @@
+-- `notation_parts::goes_on` meets its contract: the byte here tells, and behind the text's end nothing stands.
+use Rattle.std.proofs.Common.{arith}
+use Rattle.notation_parts.specs.PlaceLaws.{goes_at}
+use Rattle.notation_parts.proofs.goes_on.Goals as goal
+
+pub returns : goal.returns
+returns c = goes_at c.args.text.now c.args.at (omega arith)

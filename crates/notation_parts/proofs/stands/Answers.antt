@@ -1,0 +1,7 @@
+-- `notation_parts::stands` meets its contract: the byte here tells, and behind the text's end nothing stands.
+use Rattle.std.proofs.Common.{arith}
+use Rattle.notation_parts.specs.PlaceLaws.{stands_at}
+use Rattle.notation_parts.proofs.stands.Goals as goal
+
+pub returns : goal.returns
+returns c = stands_at c.args.text.now c.args.at (omega arith) c.args.b c.requires
