@@ -1,6 +1,6 @@
 -- The members that a row of flags tells: who stands among them, and the loop that marks them one by one.
 use Rattle.std.specs.Prelude.{ℕ, zero, suc, ◌+◌, ◌≤◌, ◌<◌, ◌≡◌, refl, Bool, true, false, length}
-use Rattle.std.proofs.Common.{add-one, ◌∙◌, eq-eqb, ne_eqb}
+use Rattle.std.proofs.Common.{add-one, ap, ◌∙◌, eq-eqb, ne_eqb}
 use native.Mathlib.Omega.{arith}
 use Rattle.std.proofs.Math.Path.{sym}
 use mathlib.Core.List.{List, [], ◌∷◌}
@@ -36,10 +36,12 @@ members_stand k (suc f ∷ fs) zero true h e = rw (eq-eqb (k + 0 + 1) (k + 1) (o
 members_stand k (suc f ∷ fs) zero false h e = absurd (omega arith)
 members_stand k (zero ∷ fs) (suc j) t h e =
     let m : k + suc j + 1 ≡ k + 1 + j + 1 = omega arith in
-    rw m (members_stand (k + 1) fs j t (omega arith) e)
+    let s : stands (k + 1 + j + 1) (members (k + 1) fs) ≡ t = members_stand (k + 1) fs j t (omega arith) e in
+    ap (λ (n : ℕ). stands n (members (k + 1) fs)) m ∙ s
 members_stand k (suc f ∷ fs) (suc j) t h e =
     let m : k + suc j + 1 ≡ k + 1 + j + 1 = omega arith in
-    rw (m, ne_eqb (k + 1 + j + 1) (k + 1) (omega arith)) (members_stand (k + 1) fs j t (omega arith) e)
+    let s : stands (k + 1 + j + 1) (members (k + 1) fs) ≡ t = members_stand (k + 1) fs j t (omega arith) e in
+    rw (ne_eqb (k + suc j + 1) (k + 1) (omega arith)) (ap (λ (n : ℕ). stands n (members (k + 1) fs)) m ∙ s)
 
 -- marking them one by one
 
