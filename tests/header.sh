@@ -1,5 +1,5 @@
 #!/bin/sh
-# Holds include/busplan.h to the Rattle source, which no compiler does: the functions that the crate busplan exports, by
+# Holds include/busplan.h to the Rattle source, which no compiler does: the functions that the crate busplan_c exports, by
 # name, order, result and parameters; the numbers of the refusals and the limits, as the crate spec has them. Number 10
 # is retired and must be no refusal's. Then it damages copies of the header, and each must be caught. It needs neither
 # rt nor a C compiler.
@@ -42,27 +42,27 @@ exported() {
       print name "\t" type(result) " " name "(" (n > 0 ? form : "void") ")"
     }
     { sub(/\/\/.*/, "") }
-    /#\[no_mangle\]/ { marked = 1 }
+    /#\[unsafe\(no_mangle\)\]/ { marked = 1 }
     marked && /pub extern "C" fn/ { reading = 1; marked = 0; text = "" }
     reading { text = text " " $0 }
     reading && /\)/ { show(text); reading = 0 }
-  ' crates/busplan/src/*.rt
+  ' crates/busplan_c/src/*.rt
 }
 
 # The refusals and the limits of the specification.
 specified() {
   awk '
-    $1 == "numberOf" && $3 == "=" {
+    $1 == "number_of" && $3 == "=" {
       name = $2
       gsub(/[A-Z]/, "_&", name)
       print "BUSPLAN" toupper(name) "\tBUSPLAN" toupper(name) " = " $4
     }
   ' crates/spec/specs/Table.antt
-  limit 's/^countLine c = holds (ltb \([0-9]*\) .*/BUSPLAN_MAX_COMMANDS \1/p' crates/spec/specs/Catalogue.antt
-  limit 's/^recordsLine c = holds (ltb \([0-9]*\) .*/BUSPLAN_MAX_RECORDS \1/p' crates/spec/specs/Catalogue.antt
-  limit 's/^planLimit = /BUSPLAN_MAX_PLAN /p' crates/spec/specs/Calls.antt
-  limit 's/^leadInLimit = /BUSPLAN_MAX_LEAD_IN /p' crates/spec/specs/Loops.antt
-  limit 's/^firstDeep d i (opening .*(leb \([0-9]*\) d).*/BUSPLAN_MAX_NESTING \1/p' crates/spec/specs/Notation.antt
+  limit 's/^count_line c = holds (ltb \([0-9]*\) .*/BUSPLAN_MAX_COMMANDS \1/p' crates/spec/specs/Catalogue.antt
+  limit 's/^records_line c = holds (ltb \([0-9]*\) .*/BUSPLAN_MAX_RECORDS \1/p' crates/spec/specs/Catalogue.antt
+  limit 's/^plan_limit = /BUSPLAN_MAX_PLAN /p' crates/spec/specs/Calls.antt
+  limit 's/^lead_in_limit = /BUSPLAN_MAX_LEAD_IN /p' crates/spec/specs/Loops.antt
+  limit 's/^first_deep d i (opening .*(leb \([0-9]*\) d).*/BUSPLAN_MAX_NESTING \1/p' crates/spec/specs/Notation.antt
 }
 
 limit() { sed -n "$1" "$2" | awk '{ print $1 "\t" $1 " " $2 }'; } # SCRIPT FILE: the script leaves a name and a number

@@ -1,11 +1,10 @@
-// The calls on bus plans that are open to callers, each from a crate of its own, and the functions for callers from C.
+// The calls on bus plans that are open to callers in Rattle, each from a crate of its own; the crate busplan_c has them
+// for callers from C.
 // A call takes any bytes as catalogue and plans and answers with a result or with exactly one refusal of the manual's
 // table; a refusal changes nothing that was lent. The crate spec defines what each call answers (specs/Calls.antt,
 // specs/Slots.antt, specs/Precedence.antt, specs/Loops.antt) and states what that is worth (specs/Demands.antt).
 
 #![tactic(auto)]
-
-mod console;
 
 pub use call_catalogue::read_catalogue;
 pub use call_equal::equal;

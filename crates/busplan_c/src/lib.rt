@@ -1,5 +1,8 @@
-// The calls as the console makes them from C, over slices of bytes and of 16-bit numbers: each a pointer and a length.
-// The answer is a number, which spec/specs/Codes.antt gives for each case of a call's answer.
+// The static library for callers from C: the calls as the console makes them, each handed to the crate busplan, over
+// slices of bytes and of 16-bit numbers: each a pointer and a length. The answer is a number, which
+// spec/specs/Codes.antt gives for each case of a call's answer.
+
+#![tactic(auto)]
 
 ghost use Rattle.std.specs.Prelude.{◌≡◌};
 ghost use Rattle.spec.specs.Codes.{length_code, equal_code, LoopedCode, check_code, fault_code};
@@ -19,7 +22,7 @@ pub extern "C" fn busplan_normal_form(catalogue: &[u8], plan: &[u8], area: &mut 
         ≡ normal_form_area catalogue.now plan.now area.old }
 {
     let mut pairs = call_forms::own_pairs();
-    let formed = crate::normal_form(catalogue, plan, area, &mut pairs);
+    let formed = busplan::normal_form(catalogue, plan, area, &mut pairs);
     call_codes::length_code(call_forms::length_alone(formed))
 }
 
@@ -30,7 +33,7 @@ pub extern "C" fn busplan_core(catalogue: &[u8], plan: &[u8], area: &mut [u8]) -
     ensures bytes { area.new
         ≡ core_area catalogue.now plan.now area.old }
 {
-    call_codes::length_code(crate::core(catalogue, plan, area))
+    call_codes::length_code(busplan::core(catalogue, plan, area))
 }
 
 // in_use receives how many slots are in use.
@@ -51,7 +54,7 @@ pub extern "C" fn busplan_slots(
     ensures number { in_use.new ≡ in_use_number (slots_answer catalogue.now plan.now
         area.old slots.old) in_use.old }
 {
-    let answer = crate::slots(catalogue, plan, area, slots);
+    let answer = busplan::slots(catalogue, plan, area, slots);
     *in_use = call_codes::slots_number(answer, *in_use);
     call_codes::slots_code(answer)
 }
@@ -61,7 +64,7 @@ pub extern "C" fn busplan_precedence(catalogue: &[u8], plan: &[u8], places: &[u1
     ensures { result ≡ precedence_code (precedence_answer catalogue.now plan.now
         places.now) }
 {
-    call_codes::precedence_code(crate::precedence(catalogue, plan, places))
+    call_codes::precedence_code(busplan::precedence(catalogue, plan, places))
 }
 
 // fault receives the plan and the place.
@@ -77,7 +80,7 @@ pub extern "C" fn busplan_precedence_fault(
     ensures numbers { fault.new ≡ fault_numbers (precedence_fault catalogue.now
         plan.now places.now) fault.old }
 {
-    let refused = call_codes::precedence_fault(crate::precedence(catalogue, plan, places));
+    let refused = call_codes::precedence_fault(busplan::precedence(catalogue, plan, places));
     *fault = call_codes::fault_numbers(refused, *fault);
     call_codes::fault_code(refused)
 }
@@ -86,7 +89,7 @@ pub extern "C" fn busplan_precedence_fault(
 pub extern "C" fn busplan_equal(catalogue: &[u8], v: &[u8], w: &[u8]) -> i64
     ensures { result ≡ equal_code (equal_answer catalogue.now v.now w.now) }
 {
-    call_codes::equal_code(crate::equal(catalogue, v, w))
+    call_codes::equal_code(busplan::equal(catalogue, v, w))
 }
 
 #[unsafe(no_mangle)]
@@ -94,7 +97,7 @@ pub extern "C" fn busplan_loops(catalogue: &[u8], v: &[u8], w: &[u8], area: &mut
     ensures { LoopedCode catalogue.now v.now w.now area.old result
         area.new }
 {
-    call_codes::loops_code(crate::loops(catalogue, v, w, area))
+    call_codes::loops_code(busplan::loops(catalogue, v, w, area))
 }
 
 #[unsafe(no_mangle)]
@@ -113,7 +116,7 @@ pub extern "C" fn busplan_lead_in_check(
     ensures bytes1 { area1.new ≡ check_area1 catalogue.now v.now w.now
         u.now area0.old area1.old }
 {
-    call_codes::check_code(crate::lead_in_check(catalogue, v, w, u, area0, area1))
+    call_codes::check_code(busplan::lead_in_check(catalogue, v, w, u, area0, area1))
 }
 
 // fault receives the plan and the place.
@@ -130,7 +133,7 @@ pub extern "C" fn busplan_fault(
     ensures numbers { fault.new ≡ fault_numbers (fault_answer catalogue.now v.now
         w.now u.now) fault.old }
 {
-    let found = crate::fault(catalogue, v, w, u);
+    let found = busplan::fault(catalogue, v, w, u);
     *fault = call_codes::fault_numbers(found, *fault);
     call_codes::fault_code(found)
 }
@@ -142,7 +145,7 @@ pub extern "C" fn busplan_write_out(catalogue: &[u8], text: &[u8], area: &mut [u
     ensures bytes { area.new
         ≡ write_out_area catalogue.now text.now area.old }
 {
-    call_codes::length_code(crate::write_out(catalogue, text, area))
+    call_codes::length_code(busplan::write_out(catalogue, text, area))
 }
 
 // fault receives the plan and the place.
@@ -152,7 +155,7 @@ pub extern "C" fn busplan_text_fault(catalogue: &[u8], text: &[u8], fault: &mut 
     ensures numbers { fault.new
         ≡ fault_numbers (text_fault catalogue.now text.now) fault.old }
 {
-    let wrong = crate::text_fault(catalogue, text);
+    let wrong = busplan::text_fault(catalogue, text);
     *fault = call_codes::fault_numbers(wrong, *fault);
     call_codes::fault_code(wrong)
 }
