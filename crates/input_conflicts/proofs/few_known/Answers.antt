@@ -1,0 +1,10 @@
+-- `few_known` has 0 in each place.
+use mathlib.Core.Path.{refl}
+use Rattle.input_conflicts.specs.KnownLaws.{none_known}
+use Rattle.input_conflicts.proofs.few_known.Goals as goal
+
+pub returns : goal.returns
+returns c = record {
+  none = none_known 256;
+  long = refl;
+}
