@@ -78,6 +78,7 @@ module _ {c : List ℕ} {rows : List (List ℕ)} (table : Conflicts c rows) wher
         go : (t : Bool) → meets (alphabet c) k R ≡ true → (t || meets (alphabet c) k R) ≡ true
         go true e = refl
         go false e = e
+    meets_held {R = []} m h = elim m [ ]
 
     meets_clear : {s R : List ℕ} → Marks s R → meets (alphabet c) k R ≡ false → Clear (get_or rows (k - 1) []) s
     meets_clear m e j l a b =

@@ -1,6 +1,6 @@
 -- The law of the set test: a line of conflicts and a set, gathered as bits, share no bit exactly if the line names no
 -- command in the set.
-use Rattle.std.specs.Prelude.{ℕ, ◌<◌, ◌≡◌, List, [], ◌↔◌, get_or}
+use Rattle.std.specs.Prelude.{ℕ, ◌≡◌, List, ◌↔◌}
 use Rattle.std.proofs.Common.{arith}
 use Rattle.std.specs.Int.Bits.{bit_and}
 use Rattle.spec.specs.Bits.{Gathered}

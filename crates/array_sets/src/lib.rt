@@ -10,6 +10,7 @@ use array_bits::gather;
 use array_counts::lift;
 
 // The set of no command.
+#[tactic(auto, unfolding(crate::specs::Sets::empty))]
 pub fn none() -> [u16; 24]
     ensures { result ≡ empty }
 {
