@@ -58,7 +58,7 @@ starts_more ps before p h =
     ∙ seam_set (ns ++ e ∷ []) before l (omega arith)
     ∙ ap (λ x. x ++ drop (length x) before) j
 
-noted_long : {pairs after : List ℕ} {n i m : ℕ} {o : Option ℕ} → Noted pairs n i o after m → length after ≡ length pairs
+noted_long : {pairs : List ℕ} {n i m : ℕ} {o : Option ℕ} {after : List ℕ} → Noted pairs n i o after m → length after ≡ length pairs
 noted_long nothing = refl
 noted_long {pairs} {n = n} {i = i} (one {earlier = e}) =
     length-set (set pairs (2 * n) e) (2 * n + 1) i ∙ length-set pairs (2 * n) e
