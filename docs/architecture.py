@@ -6,7 +6,7 @@ import sys
 
 ROOT = os.path.join(os.path.dirname(os.path.abspath(__file__)), "..")
 PICTURE = os.path.join(ROOT, "docs", "architecture.svg")
-KIT = {"io", "libc", "os", "bytes", "check"}
+KIT = {"io"}
 PITCH, LINE, PAD, GAP, RISE = 168, 17, 12, 22, 46
 
 
@@ -24,7 +24,8 @@ def read():
             if colon and " " not in head and head != "NAME":
                 purpose[head.rstrip("_")] = text
         elif ":" in line:
-            name, _, below = line.partition(":")
+            head, _, below = line.partition(":")
+            name = head.split()[0]  # "staticlib" may follow
             own = group(name)
             crates.setdefault(own, []).append(name)
             uses.setdefault(own, set()).update(group(d) for d in below.split() if d not in KIT)

@@ -7,7 +7,7 @@
  * good conflicts line that names all commands that the bad one names and after which all pairs hold that can be read in
  * it.
  *
- * Build, after `rt staticlib busplan`, from the repository's root:
+ * Build, after `sh tests/archive.sh`, from the repository's root:
  *   gcc -O2 -Iinclude examples/console.c target/staticlib/libbusplan.a -o target/console
  */
 #define _POSIX_C_SOURCE 200809L

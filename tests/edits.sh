@@ -3,9 +3,12 @@
 # notation". A row of them names an edit, a row of crates/cases/stdin or crates/cases_texts/stdin, the library's answer
 # to that row and the wrong program's. The edit's changes of the code go into a copy, and `rt try` runs the program
 # there, unproved, with that row of stdin alone: interpreted, unless that takes more steps than rt allows, and compiled
-# three ways. It takes five and a half minutes on two cores that do nothing else, and ./test runs it.
+# with checks. Each row takes some 20 seconds of a processor, most of them to read and compile the sources, and ./test
+# runs it.
 #
 #   tests/edits.sh [EDIT...]     EDIT: CRATE/LABEL; by default all in the tables
+#
+# AT_A_TIME sets how many rows are tried side by side (by default as many as there are processors).
 set -e
 cd "$(dirname "$0")/.."
 if ! command -v rt >/dev/null 2>&1; then
@@ -14,7 +17,7 @@ if ! command -v rt >/dev/null 2>&1; then
 fi
 root=$(pwd -P)
 room=$(mktemp -d)
-at_a_time=2
+at_a_time=${AT_A_TIME:-$(getconf _NPROCESSORS_ONLN 2>/dev/null || echo 2)}
 workers=''
 trap 'rm -rf "$room"' EXIT
 trap 'kill $workers 2>/dev/null; wait; exit 1' HUP INT TERM
@@ -51,9 +54,15 @@ done
 if [ $# -gt 0 ]; then mv "$room/wanted" "$room/table"; fi
 rows=$(awk 'END { print NR }' "$room/table")
 
-# The program cases without its rounds over every small plan, for which the interpreter is too slow.
-sed '/^    every(/d' crates/cases/src/main.rt >"$room/main.rt"
-if [ "$(diff crates/cases/src/main.rt "$room/main.rt" | grep -c '^<')" != 2 ]; then
+# The sources, which a row copies: the program cases without its rounds over every small plan, for which the interpreter
+# is too slow.
+for crate in crates/*; do
+  mkdir -p "$room/sources/$crate"
+  cp -R "$crate/src" "$room/sources/$crate"
+done
+cp crates.txt "$room/sources"
+sed '/^    every(/d' crates/cases/src/main.rt >"$room/sources/crates/cases/src/main.rt"
+if [ "$(diff crates/cases/src/main.rt "$room/sources/crates/cases/src/main.rt" | grep -c '^<')" != 2 ]; then
   echo "edits: crates/cases/src/main.rt has not the two calls of every that are left out here" >&2
   exit 1
 fi
@@ -89,17 +98,17 @@ apply() { # EDIT FOLDER
   if [ "$blocks" = 0 ]; then echo "the edit changes no code"; return 1; fi
 }
 
-# Whether the program ran and printed what was expected, or stopped or ran on where that is expected.
+# Whether the program ran and printed what was expected. One that stops is stopped by a check; one that runs on has no
+# end within the interpreter's steps, and is stopped where it writes past a row.
 as_expected() { # WRONG SAID
-  if [ "$1" = stops ]; then grep -q '^undefined behavior' "$2"; return; fi
-  if [ "$1" = 'runs on' ]; then
-    grep -q '^the run did not finish within [0-9]* steps' "$2" || return 1
-    [ "$(grep -c '^the program was killed by signal ' "$2")" = 3 ]
-    return
-  fi
-  if grep '^FAIL' "$2" | grep -qv '^FAIL: the interpreter failed, with status 83$'; then return 1; fi
-  if grep -q '^FAIL' "$2" && ! grep -q '^the run did not finish within [0-9]* steps' "$2"; then return 1; fi
-  [ "$(grep -c '^ok: the native program ' "$2")" = 3 ]
+  case $1 in
+    stops) grep -q '^case=1 run=fault ' "$2" ;;
+    'runs on')
+      grep -q '^interpreter: no-answer: the run did not finish within [0-9]* steps' "$2" &&
+        grep -q '^checked: fault kind=index-out-of-bounds ' "$2"
+      ;;
+    *) grep -q '^case=1 run=ended status=0 .*output=expected' "$2" ;;
+  esac
 }
 
 # A case's row of stdin, and the program's lines where it answers so and the library answers right: for cases, which
@@ -133,22 +142,16 @@ try_row() { # NUMBER EDIT PROGRAM CASE RIGHT WRONG
     echo "crates/$3/stdout has another right answer"
     return 1
   fi
-  mkdir -p "$copy/crates/$crate" "$copy/crates/$3"
-  for other in "$root"/crates/*; do
-    [ -e "$copy/crates/${other##*/}" ] || ln -s "$other" "$copy/crates" || return 1
-  done
-  cp crates.txt "$copy"
-  cp -R "$root/crates/$crate/src" "$copy/crates/$crate"
-  cp -R "$program/src" "$copy/crates/$3"
-  if [ "$3" = cases ]; then cp "$room/main.rt" "$copy/crates/cases/src"; fi
-  row_of "$3" "$4" >"$copy/crates/$3/stdin"
-  if [ "$(grep -c '' "$copy/crates/$3/stdin")" != 1 ]; then
+  cp -R "$room/sources" "$copy"
+  apply "$edit" "$copy/crates/$crate" || return 1
+  mkdir "$copy/rows"
+  row_of "$3" "$4" >"$copy/rows/1"
+  if [ "$(grep -c '' "$copy/rows/1")" != 1 ]; then
     echo "crates/$3/stdin has not one row with this name"
     return 1
   fi
-  { said_of "$3" "$4" "$5" "$6"; last_of "$3"; } >"$copy/crates/$3/stdout"
-  apply "$edit" "$copy/crates/$crate" || return 1
-  (cd "$copy" && rt try "$3") >"$copy/said" 2>&1 || true
+  { said_of "$3" "$4" "$5" "$6"; last_of "$3"; } >"$copy/rows/1.stdout"
+  (cd "$copy/crates/$3" && rt try --cases ../../rows) >"$copy/said" 2>&1 || true
   as_expected "$6" "$copy/said" || { cat "$copy/said"; return 1; }
   rm -rf "$copy"
 }

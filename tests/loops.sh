@@ -7,13 +7,8 @@ set -e
 cd "$(dirname "$0")/.."
 program=${1:-target/bin/loops}
 if [ -z "$1" ]; then
-  if [ ! -e "$program" ] || [ -n "$(find crates crates.txt -newer "$program" | head -1)" ]; then
-    if ! command -v rt >/dev/null 2>&1; then
-      echo "$0: the Rattle kit is not on this machine: no command rt" >&2
-      exit 1
-    fi
-    rt check loops
-  fi
+  . tests/made.sh
+  made "$program" loops loops run
 fi
 out=target/tests/loops
 mkdir -p "$out"

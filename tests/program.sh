@@ -8,6 +8,8 @@ out=$root/target/tests/program
 rm -rf "$out"
 mkdir -p "$out"
 if [ ! -e target/bin/loops ]; then ./run >/dev/null; fi
+room=$(mktemp -d) # what may not stand in the repository: a link, and a repository
+trap 'rm -rf "$room"' EXIT
 count=0
 
 expect() { # STATUS OUTPUT SENTENCE COMMAND...: the command ends so, prints that, and says the sentence
@@ -103,9 +105,9 @@ if [ "$(id -u)" != 0 ]; then
   chmod a-r "$out/a name with spaces"
   expect 2 '' "cannot be read" ./run "$out/a name with spaces"
 fi
-mkdir "$out/no_rt"
-ln -s "$(command -v dirname)" "$out/no_rt"
-expect 1 '' "the Rattle kit is not on this machine" env PATH="$out/no_rt" ./run
+mkdir "$room/no_rt"
+ln -s "$(command -v dirname)" "$room/no_rt"
+expect 1 '' "the Rattle kit is not on this machine" env PATH="$room/no_rt" ./run
 
 # Each answer in words.
 zeros() { awk -v n="$1" 'BEGIN { while (n-- > 0) printf "\\000" }'; }
@@ -142,20 +144,26 @@ refused "11 0 0" "the input is badly framed: it ends early, has bytes left over 
 
 # The first time, a time when nothing has changed, and a proof that fails, in a repository of two crates and one more
 # that the program does not need.
-small=$out/small
-mkdir -p "$small/crates/half/src" "$small/crates/loops/src"
+small=$room/small
+mkdir -p "$small/tests" "$small/crates/half/src" "$small/crates/unneeded/src" "$small/crates/loops/src"
 cp run "$small"
+cp tests/made.sh "$small/tests"
 cat >"$small/crates.txt" <<'END'
 half:
-unneeded: half # and not there
-loops: half io libc
+unneeded: half # and not provable
+loops: half io
 END
 cat >"$small/crates/half/src/lib.rt" <<'END'
+#![tactic(auto)]
+
 pub fn half(x: u64) -> u64 {
     x / 2
 }
 END
+printf '#![tactic(auto)]\n\npub fn unneeded(x: u64) -> u64 {\n    half::half(x) + x\n}\n' >"$small/crates/unneeded/src/lib.rt"
 cat >"$small/crates/loops/src/main.rt" <<'END'
+#![tactic(auto)]
+
 fn main() {
     io::write_all(1, b"loops 1\napart\n");
 }
@@ -181,12 +189,12 @@ expect 0 "$apart" "run: nothing is to be proved: the program loops is newer" "$s
 touch "$small/crates/half/src/lib.rt"
 expect 0 "$apart" "run: nothing is to be proved: all 2 crates are as they were" "$small/run"
 expect 0 "$apart" "run: nothing is to be proved: the program loops is newer" "$small/run"
-rm "$small/target/bin/loops"
+rm "$small/target/bin/loops" "$small/crates/loops/out/loops"
 expect 0 "$apart" "run: proved 1 of 2 crates" "$small/run"
 if grep 'proving crate half' "$out/said" >&2; then exit 1; fi # it is as it was
 printf 'pub fn half(x: u64, y: u64) -> u64 {\n    x / y\n}\n' >"$small/crates/half/src/lib.rt"
-expect 1 '' "run: crate half is not proved; the end of target/log/half.out:" "$small/run"
-said "rt: half NOT PROVED"
+expect 1 '' "run: crate half is not proved; the end of target/log/run.txt:" "$small/run"
+said "fn half::half: no proof"
 
 # README.md shows, as they are, the example's bytes, a caller in Rattle, what it prints, and a step of another's proof.
 bytes=$(od -An -v -tx1 crates/loops/stdin | tr -s ' \n' '  ' | sed 's/^ *//; s/ *$//')

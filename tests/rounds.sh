@@ -16,13 +16,8 @@ if ! command -v "$cc" >/dev/null 2>&1; then
   exit 0
 fi
 if [ -z "$1" ]; then
-  if [ ! -e "$program" ] || [ -n "$(find crates crates.txt -newer "$program" | head -1)" ]; then
-    if ! command -v rt >/dev/null 2>&1; then
-      echo "$0: the Rattle kit is not on this machine: no command rt" >&2
-      exit 1
-    fi
-    rt check cases_rounds
-  fi
+  . tests/made.sh
+  made "$program" cases_rounds cases_rounds run
 fi
 out=target/tests
 mkdir -p "$out"
