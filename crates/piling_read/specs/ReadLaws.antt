@@ -1,6 +1,8 @@
 -- The loop that reads a piling off: l letters are written, and the beads left are the stacks of the word that is left.
 use Rattle.std.specs.Prelude.{ℕ, ◌+◌, ◌<◌, ◌≤◌, ◌≡◌, List, [], length, get_or, set}
 use Rattle.std.proofs.Common.{subst, arith}
+use Rattle.spec.specs.Conflict.{conflict}
+use Rattle.input_chains.specs.MarkingLaws.{yes_low}
 use Rattle.array_counts.specs.First.{NoneBelow, FirstWith}
 use Rattle.array_counts.specs.Heights.{Both, Changed}
 use Rattle.array_row.specs.Area.{ReadOff}
@@ -66,6 +68,18 @@ module _ {conflicts rows : List (List ℕ)} {heights bottoms before at area : Li
           let (y, g) = w.reading c x r in
           let (m, (v, p)) = left_shows g.left k h (w.first.found h) in
           left_fits g.left r.table h m p
+
+      -- the line of any command can be added to the bottoms
+      pub written_line : (j : ℕ) → j < 24 → Both (λ h n. h + n < 65536) at (get_or conflicts j [])
+      written_line j m =
+          let (c, x, r) = some in
+          let s = (w.reading c x r).1.left.room in
+          record {
+            many = s.many;
+            wide = r.table.wide j m;
+            holds = λ i l.
+                omega (arith, s.low i l, s.high i l, r.table.tells j i m l, yes_low (conflict c (j + 1) (i + 1)));
+          }
 
       pub written_room : {after : List ℕ} → Changed ◌+◌ (get_or conflicts k []) at after → Room rows heights after
       written_room a = let (c, x, r) = some in (written_next a c x r).1.left.room

@@ -6,15 +6,15 @@ use Rattle.piling_stacks.specs.PilingLaws.{top_first, first_top, cut_room, cut_a
 use Rattle.piling_stacks.specs.PilingLaws.{none_off}
 use Rattle.piling_stacks.proofs.cancel.Goals as goal
 
-pub lower-requires : goal.lower-requires
-lower-requires c =
-    let r = c.requires.2 in
-    cut_room r (top_first r (omega arith) (c.if-rows-k.true ∙ c.opposite.ensures))
-
 pub returns-then-rows-k : goal.returns-then-rows-k
 returns-then-rows-k c = λ k z r.
     let f = top_first r (omega arith) (c.if-rows-k.true ∙ c.opposite.ensures) in
     gone_off f (cut_acts r f c.lower.ensures)
+
+pub lower-requires : goal.lower-requires
+lower-requires c =
+    let r = c.requires.2 in
+    cut_room r (top_first r (omega arith) (c.if-rows-k.true ∙ c.opposite.ensures))
 
 pub returns-else-rows-k : goal.returns-else-rows-k
 returns-else-rows-k c = λ k z r.
