@@ -1,0 +1,12 @@
+-- What the loop of `long_read::read_off` keeps: l letters are written, and the stacks are those of the word that is
+-- left. The measure is what is left of the area.
+use Rattle.std.proofs.Common.{◌-◌, length}
+use Rattle.long_read.specs.ReadLaws.{Underway}
+use Rattle.long_read.proofs.read_off.Given as goal
+
+abbrev pub invariant-loop-k : goal.invariant-loop-k
+invariant-loop-k l =
+    Underway l.conflicts l.word l.under l.link l.initial.tops l.initial.marks l.initial.heights l.initial.area l.tops l.marks l.heights l.area l.l l.k
+
+abbrev pub decreases-loop-k : goal.decreases-loop-k
+decreases-loop-k l = length l.initial.area - l.l
