@@ -1,0 +1,13 @@
+-- The goals of `long_product::product_in` that the check leaves.
+use Rattle.long_product.specs.ProductLaws.{product_given, product_formable, product_written}
+use Rattle.long_product.proofs.product_in.Goals as goal
+
+pub form-requires : goal.form-requires
+form-requires c =
+    let (k, f, s) = c.requires in
+    (k, product_formable c.concatenate-end.ensures f)
+
+pub returns : goal.returns
+returns c =
+    let j = c.concatenate-end.ensures in
+    λ k f. product_written k j (c.form.ensures k (product_given j f))
