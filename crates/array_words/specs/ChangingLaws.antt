@@ -1,6 +1,6 @@
 -- Laws of a loop that changes the numbers of an array, each by a number of its own: those below i are changed, the
 -- others are as they were.
-use Rattle.std.specs.Prelude.{ℕ, zero, suc, ◌+◌, ◌*◌, ◌≤◌, ◌<◌, ◌≡◌, refl, List, length, get_or, set}
+use Rattle.std.specs.Prelude.{ℕ, ◌+◌, ◌≤◌, ◌<◌, ◌≡◌, refl, List, length, get_or, set}
 use Rattle.std.proofs.Common.{arith, sym, ◌∙◌, ap, subst, below_more, length-set, get_or-set_same, get_or-set_other}
 
 module _ (size : ℕ) (f : ℕ → ℕ → ℕ) (by : ℕ → ℕ) where
