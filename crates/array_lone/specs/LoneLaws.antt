@@ -1,5 +1,5 @@
 -- Laws of sums of bits, and of lines of conflicts whose sum is 1.
-use Rattle.std.specs.Prelude.{ℕ, zero, suc, ◌+◌, ◌<◌, ◌≤◌, ◌≡◌, Bool, true, List, [], length, get_or}
+use Rattle.std.specs.Prelude.{ℕ, zero, suc, ◌+◌, ◌<◌, ◌≤◌, ◌≡◌, Bool, true, List, [], get_or}
 use Rattle.std.proofs.Common.{arith, add-one, ◌∙◌, ap, below_more}
 use Rattle.std.proofs.Math.Decide.{dec_lt}
 use Rattle.spec.specs.Answers.{yes_no}
