@@ -1,5 +1,5 @@
 -- From one ring to another: what the search for a rotation tells, and what is appended.
-use Prim.Native.Nat.{ℕ, ◌+◌, ◌≤◌}
+use Prim.Native.Nat.{ℕ, ◌≤◌}
 use native.Mathlib.Omega.{arith}
 use Rattle.std.specs.Prelude.{◌≡◌, refl, Bool, true, false, ◌&&◌, eqb}
 use Rattle.std.proofs.Math.Path.{sym, ap}
