@@ -1,7 +1,7 @@
 -- `notation_parts::digits` meets its contract: each digit read keeps the invariant, and no digit stands where it ends.
 use Rattle.std.proofs.Common.{arith}
 use Rattle.notation_parts.specs.DigitLaws.{scan_room, scan_again, scan_end}
-use Rattle.notation_parts.proofs.NoDigitLaws.{no_digit_at, no_digit_past}
+use Rattle.notation_parts.proofs.NoDigitLaws.{no_digit_tag, no_digit_at, no_digit_past}
 use Rattle.notation_parts.proofs.digits.Goals as goal
 
 pub returns-in_default : goal.returns-in_default
@@ -9,7 +9,7 @@ returns-in_default c =
     let s = c.args.text.now in
     let k = c.token_of in
     scan_end s c.loop-i.invariant
-    (no_digit_at s c.loop-i.i c.loop-i-test.true k.result k.ensures c.in_default.not-Digit)
+    (no_digit_at s c.loop-i.i c.loop-i-test.true k.result k.ensures (no_digit_tag _ c.in_default.not-Digit))
 
 pub overflow_mul-value : goal.overflow_mul-value
 overflow_mul-value c = omega (arith, scan_room _ c.loop-i.invariant c.loop-i-test.true c.in-Digit.ensures)
