@@ -196,12 +196,12 @@ printf 'pub fn half(x: u64, y: u64) -> u64 {\n    x / y\n}\n' >"$small/crates/ha
 expect 1 '' "run: crate half is not proved; the end of target/log/run.txt:" "$small/run"
 said "fn half::half: no proof"
 
-# README.md shows, as they are, the example's bytes, a caller in Rattle, what it prints, and a step of another's proof.
+# README.md shows, as they are, the example's bytes, a caller in Rattle, what it prints, and what another hands on.
 bytes=$(od -An -v -tx1 crates/loops/stdin | tr -s ' \n' '  ' | sed 's/^ *//; s/ *$//')
 caller=$(sed -n '/^fn /,$p' crates/example/src/main.rt | sed 's/^./    &/')
 prints=$(sed 's/^/    /' crates/example/stdout)
-fits=$(sed -n '/^    normal-form-fits /,/ \.given /p' crates/example_slice/proofs/show/Proof.antt)
-for shown in "$bytes" "$caller" "$prints" "$fits"; do
+hands_on=$(sed -n '/^fn show/,/^}/p' crates/example_slice/src/main.rt | sed 's/^./    &/')
+for shown in "$bytes" "$caller" "$prints" "$hands_on"; do
   case $(cat README.md) in
     *"$shown"*) ;;
     *)
