@@ -77,7 +77,8 @@ fn equals(
 }
 
 // The piling of the shorter plan, in rows with no bead, and its number of letters. Its pairs go to a row that nobody
-// reads.
+// reads. Not inlined: where it was, the rows by value of `equals_longer` were copied.
+#[inline(never)]
 fn pile_shorter(
     v: &[u8],
     w: &[u8],

@@ -57,8 +57,10 @@ fn next(rows: &[[u8; 1024]; 24], heights: &[u16; 24], at: &[u16; 24], start: usi
 }
 
 // Reads off what is left above the bottoms: each time the lowest bead of the first row that is ready. A letter moves
-// only the rows that conflict with its own, so those below the first of these stay as they were: not ready. The search
-// over all rows has two calls, so that it is not inlined: where it was, the rows by value of `read_off` were copied.
+// only the rows that conflict with its own, so those below the first of these stay as they were: not ready. Neither this
+// nor the search over all rows, which has two calls, is inlined: where one was, the rows by value of `read_off` were
+// copied.
+#[inline(never)]
 fn read(
     rows: &[[u8; 1024]; 24],
     heights: &[u16; 24],
