@@ -70,7 +70,15 @@ pub fn same_bytes(a: &[u8], b: &[u8]) -> bool
     differ == 0
 }
 
-// Rows to work in, for words of at most so many bytes.
+// A row to work in, of as many elements as the caller's type says. Its contract tells the length alone, so that no
+// caller's proof sees the elements one by one.
+pub fn row<T: Copy, const N: usize>(fill: T) -> [T; N]
+    ensures { N ≡ length result }
+{
+    [fill; N]
+}
+
+// The same for the lengths of old, until each caller calls `row`.
 
 pub fn short_row() -> [u8; 2048]
     ensures { 2048 ≡ length result }
