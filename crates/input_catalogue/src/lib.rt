@@ -1,5 +1,6 @@
 // The form of a catalogue, of either edition: `check` decides lines 1, 2, 17, 3 and 4 of the manual's table for any
-// bytes, each line over the whole catalogue before the next. The crate spec states the lines (specs/Catalogue.antt).
+// bytes, each line over the whole catalogue before the next. The crate spec states the lines (specs/Catalogue.antt). A
+// check passes with the number that the caller goes on with, here N.
 
 #![tactic(auto)]
 
@@ -13,18 +14,11 @@ ghost use Rattle.input_catalogue.specs.Sound.{Decides, frame_line, sound_line};
 use input_layout::{Layout, command_of, command_place, head_of, head_place, next_of, size_of};
 use spec::{Reason, Refusal};
 
-// What a check of one input finds: it passes, with the number that the caller goes on with, or it is refused.
-#[derive(Clone, Copy)]
-pub enum Checked {
-    Passed(usize),
-    Refused(Refusal),
-}
-
 // The plan of this number is refused, for this reason and at this place; the catalogue counts as plan 0.
-pub fn refused(reason: Reason, plan: u8, place: usize) -> Checked
+pub fn refused(reason: Reason, plan: u8, place: usize) -> Result<usize, Refusal>
     ensures { told_checked result ≡ refused_by (line (number_of reason) plan place) }
 {
-    Checked::Refused(Refusal {
+    Err(Refusal {
         reason,
         plan,
         place,
@@ -32,7 +26,7 @@ pub fn refused(reason: Reason, plan: u8, place: usize) -> Checked
 }
 
 // Lines 1, 2 and 17.
-fn framed(c: &[u8], layout: Layout) -> Checked
+fn framed(c: &[u8], layout: Layout) -> Result<usize, Refusal>
     requires { Laid c.now layout }
     ensures { Decides c.now (frame_line c.now) result }
 {
@@ -45,11 +39,11 @@ fn framed(c: &[u8], layout: Layout) -> Checked
     if 1024 < layout.records {
         return refused(Reason::RecordCount, 0, 1);
     }
-    Checked::Passed(layout.commands)
+    Ok(layout.commands)
 }
 
 // Line 3 for the heads.
-fn heads(c: &[u8], layout: Layout) -> Checked
+fn heads(c: &[u8], layout: Layout) -> Result<usize, Refusal>
     requires fact_1 { Laid c.now layout }
     requires fact_2 { Framed c.now }
     ensures { Decides c.now (head_line c.now) result }
@@ -62,11 +56,11 @@ fn heads(c: &[u8], layout: Layout) -> Checked
         }
         a += 1;
     }
-    Checked::Passed(layout.commands)
+    Ok(layout.commands)
 }
 
 // Line 3 for the records.
-fn nexts(c: &[u8], layout: Layout) -> Checked
+fn nexts(c: &[u8], layout: Layout) -> Result<usize, Refusal>
     requires fact_1 { Laid c.now layout }
     requires fact_2 { Framed c.now }
     ensures { Decides c.now (next_line c.now) result }
@@ -78,11 +72,11 @@ fn nexts(c: &[u8], layout: Layout) -> Checked
         }
         j += 1;
     }
-    Checked::Passed(layout.commands)
+    Ok(layout.commands)
 }
 
 // Line 4.
-fn named(c: &[u8], layout: Layout) -> Checked
+fn named(c: &[u8], layout: Layout) -> Result<usize, Refusal>
     requires fact_1 { Laid c.now layout }
     requires fact_2 { Framed c.now }
     ensures { Decides c.now (record_line c.now) result }
@@ -96,25 +90,16 @@ fn named(c: &[u8], layout: Layout) -> Checked
         }
         j += 1;
     }
-    Checked::Passed(layout.commands)
+    Ok(layout.commands)
 }
 
 // Lines 1, 2, 17, 3 and 4.
-pub fn check(c: &[u8], layout: Layout) -> Checked
+pub fn check(c: &[u8], layout: Layout) -> Result<usize, Refusal>
     requires { Laid c.now layout }
     ensures { Decides c.now (sound_line c.now) result }
 {
-    let frame = framed(c, layout);
-    let Checked::Passed(_) = frame else {
-        return frame;
-    };
-    let head = heads(c, layout);
-    let Checked::Passed(_) = head else {
-        return head;
-    };
-    let next = nexts(c, layout);
-    let Checked::Passed(_) = next else {
-        return next;
-    };
+    framed(c, layout)?;
+    heads(c, layout)?;
+    nexts(c, layout)?;
     named(c, layout)
 }

@@ -13,10 +13,10 @@ ghost use Rattle.input_conflicts.specs.MarkedRows.{Blank, Met, diagonal as diago
 ghost use Rattle.input_conflicts.specs.Known.{NoneKnown, Chained, Known};
 ghost use Rattle.input_conflicts.specs.Reading.{Reading};
 
-use input_catalogue::{Checked, refused};
+use input_catalogue::refused;
 use input_chains::{mark_like, walk};
 use input_layout::{Layout, head_of, head_place, layout_of};
-use spec::Reason;
+use spec::{Reason, Refusal};
 
 // The chain of command a: walked, or marked as that of the first command with the same head. Tells whether it ends.
 fn chain_of(
@@ -53,7 +53,7 @@ fn each_chain(
     rows: &mut [[u16; 24]; 24],
     own: &mut [[u16; 24]; 24],
     firsts: &mut [u8],
-) -> Checked
+) -> Result<usize, Refusal>
     requires fact_1 { Laid c.now layout × Sound c.now }
     requires fact_2 { Blank rows.old }
     requires fact_3 { Blank own.old }
@@ -70,11 +70,11 @@ fn each_chain(
         }
         a += 1;
     }
-    Checked::Passed(layout.commands)
+    Ok(layout.commands)
 }
 
 // Line 6: a command that stands in its own chain is marked against itself.
-fn own_chain(c: &[u8], layout: Layout, rows: &[[u16; 24]; 24]) -> Checked
+fn own_chain(c: &[u8], layout: Layout, rows: &[[u16; 24]; 24]) -> Result<usize, Refusal>
     requires fact_1 { Laid c.now layout }
     requires fact_2 { Framed c.now }
     requires fact_3 { Met c.now rows.now }
@@ -88,7 +88,7 @@ fn own_chain(c: &[u8], layout: Layout, rows: &[[u16; 24]; 24]) -> Checked
         }
         a += 1;
     }
-    Checked::Passed(layout.commands)
+    Ok(layout.commands)
 }
 
 // Marks every command against itself.
@@ -127,7 +127,7 @@ fn many_known() -> [u8; 1025]
 }
 
 // Line 5, with room for the heads that R records can have.
-fn chains(c: &[u8], layout: Layout, rows: &mut [[u16; 24]; 24]) -> Checked
+fn chains(c: &[u8], layout: Layout, rows: &mut [[u16; 24]; 24]) -> Result<usize, Refusal>
     requires fact_1 { Laid c.now layout × Sound c.now }
     requires fact_2 { Blank rows.old }
     ensures decides { Decides c.now (endless_line c.now) result }
@@ -142,24 +142,15 @@ fn chains(c: &[u8], layout: Layout, rows: &mut [[u16; 24]; 24]) -> Checked
     each_chain(c, layout, rows, &mut own, &mut firsts)
 }
 
-// Reads a catalogue of any bytes. Passed carries N, and then the rows hold the conflicts.
-pub fn read(catalogue: &[u8], conflicts: &mut [[u16; 24]; 24]) -> Checked
+// Reads a catalogue of any bytes. Ok carries N, and then the rows hold the conflicts.
+pub fn read(catalogue: &[u8], conflicts: &mut [[u16; 24]; 24]) -> Result<usize, Refusal>
     requires { Blank conflicts.old }
     ensures { Reading catalogue.now conflicts.new result }
 {
     let layout = layout_of(catalogue);
-    let sound = input_catalogue::check(catalogue, layout);
-    let Checked::Passed(_) = sound else {
-        return sound;
-    };
-    let chained = chains(catalogue, layout, conflicts);
-    let Checked::Passed(_) = chained else {
-        return chained;
-    };
-    let owned = own_chain(catalogue, layout, conflicts);
-    let Checked::Passed(n) = owned else {
-        return owned;
-    };
+    input_catalogue::check(catalogue, layout)?;
+    chains(catalogue, layout, conflicts)?;
+    let commands = own_chain(catalogue, layout, conflicts)?;
     diagonal(conflicts);
-    Checked::Passed(n)
+    Ok(commands)
 }

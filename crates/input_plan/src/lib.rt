@@ -10,15 +10,8 @@ ghost use Rattle.spec.specs.Plan.{passes, first_bad, plan_lines, Passing};
 ghost use Rattle.spec.specs.Byte.{undone};
 ghost use Rattle.input_plan.specs.Place.{told_place};
 
-use input_catalogue::{Checked, refused};
-use spec::Reason;
-
-// Where a byte stands that does not pass.
-#[derive(Clone, Copy)]
-enum Place {
-    Nowhere,
-    At(usize),
-}
+use input_catalogue::refused;
+use spec::{Reason, Refusal};
 
 // Does line 8 let this byte pass, with so many commands.
 fn passing(b: u8, commands: usize) -> bool
@@ -64,33 +57,33 @@ fn all_pass(plan: &[u8], commands: u8) -> bool
 }
 
 // The first byte that does not pass, byte by byte.
-fn find_bad(plan: &[u8], commands: usize) -> Place
+fn find_bad(plan: &[u8], commands: usize) -> Option<usize>
     ensures { told_place result ≡ first_bad commands plan.now }
 {
     let mut i = 0;
     while i < plan.len() {
         if !passing(plan[i], commands) {
-            return Place::At(i);
+            return Some(i);
         }
         i += 1;
     }
-    Place::Nowhere
+    None
 }
 
 // The first byte that does not pass. Where there is none the byte by byte search is spared.
-fn first_bad(plan: &[u8], commands: usize) -> Place
+fn first_bad(plan: &[u8], commands: usize) -> Option<usize>
     ensures { told_place result ≡ first_bad commands plan.now }
 {
     if commands < 128 {
         if all_pass(plan, commands as u8) {
-            return Place::Nowhere;
+            return None;
         }
     }
     find_bad(plan, commands)
 }
 
 // Lines 7 and 8 for the plan of this number, of at most so many bytes; a plan that passes gives its length.
-pub fn check(plan: &[u8], commands: usize, number: u8, limit: usize) -> Checked
+pub fn check(plan: &[u8], commands: usize, number: u8, limit: usize) -> Result<usize, Refusal>
     ensures { told_checked result
         ≡ or_else (first_line (plan_lines number limit commands plan.now)) (length plan.now) }
 {
@@ -98,8 +91,8 @@ pub fn check(plan: &[u8], commands: usize, number: u8, limit: usize) -> Checked
         return refused(Reason::PlanSize, number, 0);
     }
     match first_bad(plan, commands) {
-        Place::Nowhere => Checked::Passed(plan.len()),
-        Place::At(i) => refused(Reason::PlanByte, number, i),
+        None => Ok(plan.len()),
+        Some(i) => refused(Reason::PlanByte, number, i),
     }
 }
 
