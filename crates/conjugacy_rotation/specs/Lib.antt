@@ -1,4 +1,3 @@
-pub mod Stride
-pub mod StrideLaws
+pub mod Blocks
 pub mod Told
 pub mod SearchLaws

@@ -1,9 +1,7 @@
 -- What an answer of the search means: a starting place, or none.
-use Rattle.std.specs.Prelude.{ℕ}
-use Rattle.std.proofs.Math.Option.{Option, none, some}
-use Rattle.conjugacy_rotation.specs.declared.Start.{Start}
-use Rattle.conjugacy_rotation.specs.declared.Start.TheVariants.{At, Nowhere}
+use Rattle.std.specs.Prelude.{ℕ, Option, None, Some}
+use Rattle.std.proofs.Math.Option as Math
 
-abbrev pub told_start : Start → Option ℕ
-told_start (At i) = some i
-told_start Nowhere = none
+abbrev pub told_start : Option ℕ → Math.Option ℕ
+told_start (Some i) = Math.some i
+told_start None = Math.none

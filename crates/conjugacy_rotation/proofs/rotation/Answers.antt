@@ -1,35 +1,18 @@
--- `conjugacy_rotation::rotation` meets its contract. The outer loop has passed the places at which the rings differ;
--- the inner ones have compared the letters before the end of the ring, and then those past it. Assumes nothing.
-use native.Mathlib.Omega.{arith}
-use Rattle.conjugacy_rotation.specs.SearchLaws.{rotation_uneven, empty_at}
-use Rattle.conjugacy_rotation.specs.SearchLaws.{passed_all, near_more, near_less}
-use Rattle.conjugacy_rotation.specs.SearchLaws.{far_more, far_less, far_all}
+-- The place found is the first that fits, and else none does. Assumes nothing.
+use Rattle.std.proofs.Common.{arith}
+use Rattle.conjugacy_rotation.specs.SearchLaws.{rotation_at, rotation_nowhere, rotation_uneven}
 use Rattle.conjugacy_rotation.proofs.rotation.Goals as goal
 
-pub returns-then-other-n : goal.returns-then-other-n
-returns-then-other-n c =
-    let a = c.args in
-    λ k. rotation_uneven k a.ring.now a.other.now c.if-other-n.true
+pub returns-then-other-ring : goal.returns-then-other-ring
+returns-then-other-ring c = λ k. rotation_uneven k c.args.ring.now c.args.other.now (omega arith)
 
-pub returns-then-n-eq0 : goal.returns-then-n-eq0
-returns-then-n-eq0 c =
-    let a = c.args in
-    λ k. empty_at k a.ring.now a.other.now c.if-other-n.false c.if-n-eq0.true
+pub returns-then-agree_from : goal.returns-then-agree_from
+returns-then-agree_from c =
+    let (e, f) = c.loop-i.invariant in
+    let h = c.agree_from.ensures.0 c.if-agree_from.true in
+    λ k. rotation_at k c.args.ring.now c.args.other.now c.loop-i.i (omega (arith, e)) h f
 
-pub starts-preserved-then-agreed-eq0 : goal.starts-preserved-then-agreed-eq0
-starts-preserved-then-agreed-eq0 c = near_less c.loop-j.invariant c.stride-agreed.ensures c.if-agreed-eq0.true
-
-pub loop-j-preserved : goal.loop-j-preserved
-loop-j-preserved c = near_more c.loop-j.invariant c.stride-agreed.ensures
-
-pub starts-preserved : goal.starts-preserved
-starts-preserved c = far_less c.loop-k.invariant c.stride-agreed-in-loop-k.ensures c.if-agreed-eq0-2.true
-
-pub loop-k-preserved : goal.loop-k-preserved
-loop-k-preserved c = far_more c.loop-k.invariant c.stride-agreed-in-loop-k.ensures
-
-pub returns-then-i-n : goal.returns-then-i-n
-returns-then-i-n c = passed_all c.starts.invariant c.if-i-n.true
-
-pub returns-after-loop-k : goal.returns-after-loop-k
-returns-after-loop-k c = far_all c.loop-k.invariant (omega arith)
+pub returns : goal.returns
+returns c =
+    let (e, f) = c.loop-i.invariant in
+    λ k. rotation_nowhere k c.args.ring.now c.args.other.now (λ j l. f j (omega (arith, e)))
