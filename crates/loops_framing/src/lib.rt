@@ -16,12 +16,6 @@ pub struct Places {
     pub second: usize,
 }
 
-#[derive(Clone, Copy)]
-pub enum Frame {
-    Badly,
-    Well(Places),
-}
-
 // Where the plan ends whose count stands at place i.
 fn plan_end(s: &[u8], i: usize) -> usize
     requires { i ≤ 1000000 }
@@ -31,17 +25,17 @@ fn plan_end(s: &[u8], i: usize) -> usize
     i + 2 + pair_at(s, i)
 }
 
-// How the input is framed.
-pub fn framed(s: &[u8]) -> Frame
+// The places of an input that is well framed.
+pub fn framed(s: &[u8]) -> Option<Places>
     ensures { result ≡ frame s.now }
 {
     if 8192 < s.len() {
-        return Frame::Badly;
+        return None;
     }
     let first = size_of(layout_of(s));
     let second = plan_end(s, first);
     if plan_end(s, second) != s.len() {
-        return Frame::Badly;
+        return None;
     }
-    Frame::Well(Places { first, second })
+    Some(Places { first, second })
 }
