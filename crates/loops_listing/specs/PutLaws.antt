@@ -1,6 +1,7 @@
 -- Laws of text put into a row: one text behind another.
-use Rattle.std.specs.Prelude.{ℕ, ◌+◌, ◌-◌, ◌^◌, ◌≤◌, ◌<◌, ◌≡◌, refl, Bool, true, false, List, ◌++◌, length, take, leb}
-use Rattle.std.proofs.Common.{arith, sym, subst, length-append, length-take-le, leb-true, leb-false, Fits}
+use Rattle.std.specs.Prelude.{ℕ, ◌+◌, ◌-◌, ◌^◌, ◌≤◌, ◌<◌, ◌≡◌, refl, Bool, true, false, List, ◌++◌, length, take, leb, Result, Ok}
+use Rattle.std.specs.Prelude as rust
+use Rattle.std.proofs.Common.{arith, sym, ◌∙◌, ap, subst, length-append, length-take-le, leb-true, leb-false, Fits}
 use Rattle.std.proofs.Math.Nat.{pow-le-pow_right}
 use Rattle.std.proofs.Math.Option.{Option, some, none}
 use Rattle.std.specs.Int.{w64}
@@ -10,7 +11,8 @@ use Rattle.spec.specs.Table.{Line, Answer, given, refused}
 use Rattle.array_row.specs.Row.{Appended}
 use Rattle.array_row.specs.RowLaws.{appended_take, appended_length}
 use Rattle.array_row.specs.AppendLaws.{appended_then}
-use Rattle.spec.specs.declared.Verdict.{Verdict}
+use Rattle.spec.specs.Answers.{told_option}
+use Rattle.spec.specs.declared.Refusal.{Refusal}
 use Rattle.spec.specs.Listing.{bytes, Decimal, Shows, joined, apart, refuses, Printed, printed, told_verdict}
 use Rattle.loops_listing.specs.Put.{Put}
 
@@ -70,11 +72,12 @@ module _ {b0 b1 b2 b3 b4 b5 b6 : List ℕ} {at e1 e2 e3 e4 e5 e6 : ℕ} where
           let s5 = appended_then s4 d (omega (arith, ends3, p.there.ends, p.short)) in
           appended_then s5 i.there (omega (arith, ends5))
 
--- what a verdict shows, once it is known which it is
-pub put_told : {before after : List ℕ} {at last : ℕ} {v : Verdict} (w : Verdict) → v ≡ w
-    → Put (Shows (told_verdict w)) 70 before at after last → Put (Shows (told_verdict v)) 70 before at after last
-put_told {before} {after} {at} {last} w e p =
-    subst (λ u. Put (Shows (told_verdict u)) 70 before at after last) (sym e) p
+-- what a verdict that is no refusal shows, once it is known which it is
+pub put_given : {before after : List ℕ} {at last : ℕ} {v : Result (rust.Option ℕ) Refusal} {o p : rust.Option ℕ}
+    → v ≡ Ok o → o ≡ p → Put (Shows (given (told_option p))) 70 before at after last
+    → Put (Shows (told_verdict v)) 70 before at after last
+put_given {before} {after} {at} {last} e f q =
+    subst (λ u. Put (Shows (told_verdict u)) 70 before at after last) (sym (e ∙ ap Ok f)) q
 
 -- the whole text
 pub put_printed : {b0 b1 b2 b3 : List ℕ} {e1 e2 e3 : ℕ} (a : Answer (Option ℕ))

@@ -8,7 +8,7 @@ ghost use Rattle.io.specs.Counts.{IsPrefixLen};
 ghost use Rattle.spec.specs.Listing.{Decimal, Shows, told_verdict, Printed};
 ghost use Rattle.loops_listing.specs.Put.{Put, Refuses};
 
-use spec::{Refusal, Verdict};
+use spec::Refusal;
 
 // A number in decimal, behind the first `at` bytes.
 fn put_decimal(out: &mut [u8], at: usize, n: u64) -> usize
@@ -25,9 +25,8 @@ fn put_refusal(out: &mut [u8], at: usize, refusal: Refusal) -> usize
     requires { at + 70 ≤ length out.old }
     ensures { Put (Refuses refusal) 70 out.old at out.new result }
 {
-    let reason = refusal.reason;
     let word = array_row::append(out, at, b"refused ");
-    let number = put_decimal(out, word, call_codes::number(reason) as u64);
+    let number = put_decimal(out, word, call_codes::number(refusal.reason) as u64);
     let gap = array_row::append(out, number, b" ");
     let plan = put_decimal(out, gap, refusal.plan as u64);
     let next = array_row::append(out, plan, b" ");
@@ -35,22 +34,22 @@ fn put_refusal(out: &mut [u8], at: usize, refusal: Refusal) -> usize
 }
 
 // The line of a verdict.
-fn put_line(out: &mut [u8], at: usize, verdict: Verdict) -> usize
+fn put_line(out: &mut [u8], at: usize, verdict: Result<Option<usize>, Refusal>) -> usize
     requires { at + 70 ≤ length out.old }
     ensures { Put (Shows (told_verdict verdict)) 70 out.old at out.new result }
 {
     match verdict {
-        Verdict::Joined(c) => {
+        Ok(Some(c)) => {
             let word = array_row::append(out, at, b"joined ");
             put_decimal(out, word, c as u64)
         }
-        Verdict::Apart => array_row::append(out, at, b"apart"),
-        Verdict::Refused(refusal) => put_refusal(out, at, refusal),
+        Ok(None) => array_row::append(out, at, b"apart"),
+        Err(refusal) => put_refusal(out, at, refusal),
     }
 }
 
 // The whole text, at the start of out; gives its length.
-pub fn put(out: &mut [u8], verdict: Verdict) -> usize
+pub fn put(out: &mut [u8], verdict: Result<Option<usize>, Refusal>) -> usize
     requires { 79 ≤ length out.old }
     ensures text { Printed (told_verdict verdict) (take result out.new) }
     ensures room { IsPrefixLen result out.new }
