@@ -3,7 +3,7 @@
 
 #![tactic(auto)]
 
-ghost use Rattle.std.specs.Prelude.{◌+◌, ◌-◌, ◌≤◌, ◌<◌, max, ◌≡◌};
+ghost use Rattle.std.specs.Prelude.{◌+◌, ◌-◌, ◌≤◌, ◌<◌, ◌≡◌};
 ghost use Rattle.array_counts.specs.Blank.{blank_heights, Ones};
 ghost use Rattle.array_counts.specs.Heights.{Both, Changed, ChangedBy, without, at_least};
 
