@@ -5,10 +5,9 @@
 
 ghost use Rattle.std.specs.Prelude.{ℕ, ◌+◌, ◌-◌, ◌<◌, ◌≤◌, max, ◌≡◌, true, List, ◌∷◌, [], ◌↔◌, get_or};
 ghost use Rattle.conjugacy_settled_parts.specs.PartOf.{PartOf};
-ghost use Rattle.conjugacy_rounds.specs.Apexes.{Apex, apex_at, apexes_from, NextApex, LoneApex};
+ghost use Rattle.conjugacy_rounds.specs.Apexes.{Apex, apex_at, apexes_from, NextFound, LoneFound};
 ghost use Rattle.conjugacy_rounds.specs.Counting.{ApexOf, CoreOf, GroupOf, Counts};
 
-use array_row::sheet;
 use conjugacy_parts::group;
 use conjugacy_settled_parts::settle_part;
 
@@ -33,33 +32,28 @@ pub fn is_apex(flags: &[u16; 24], labels: &[u8; 24], k: usize) -> bool
     true
 }
 
-// The place of the next apex from command k + 1 on, or 24 where there is none.
-fn next_apex(flags: &[u16; 24], labels: &[u8; 24], k: usize) -> usize
+// The place of the next apex from command k + 1 on.
+fn next_apex(flags: &[u16; 24], labels: &[u8; 24], k: usize) -> Option<usize>
     requires { k ≤ 24 }
-    ensures { NextApex flags.now labels.now k result }
+    ensures { NextFound flags.now labels.now k result }
 {
-    let mut j = k;
-    while j < 24 {
+    for j in k..24 {
         if is_apex(flags, labels, j) {
-            return j;
+            return Some(j);
         }
-        j += 1;
     }
-    24
+    None
 }
 
-// The place of the only apex, or 24 where there are several or none.
-pub fn lone_apex(flags: &[u16; 24], labels: &[u8; 24]) -> usize
-    ensures { LoneApex flags.now labels.now result }
+// The place of the only apex, where there is just one.
+pub fn lone_apex(flags: &[u16; 24], labels: &[u8; 24]) -> Option<usize>
+    ensures { LoneFound flags.now labels.now result }
 {
-    let first = next_apex(flags, labels, 0);
-    if first == 24 {
-        return 24;
+    let first = next_apex(flags, labels, 0)?;
+    match next_apex(flags, labels, first + 1) {
+        Some(_) => None,
+        None => Some(first),
     }
-    if next_apex(flags, labels, first + 1) < 24 {
-        return 24;
-    }
-    first
 }
 
 // Whether command k + 1 is the only one with its label, of those up to it.
@@ -67,14 +61,8 @@ fn alone(labels: &[u8; 24], k: usize) -> bool
     requires { k < 24 }
     ensures { (result ≡ true) ↔ ((j : ℕ) → j < k → get_or labels.now j 0 ≡ k + 1 → ⊥) }
 {
-    let mut j = 0;
-    while j < k {
-        if labels[j] == (k + 1) as u8 {
-            return false;
-        }
-        j += 1;
-    }
-    true
+    let apex = (k + 1) as u8;
+    !labels[..k].contains(&apex)
 }
 
 // The rounds that the part with this apex needs.
@@ -90,7 +78,7 @@ fn part_rounds(
         → PartOf c conflicts.now x apex part.now row.old at
         → Counts c x (apex ∷ []) 0 row.old row.new at result }
 {
-    let mut word = sheet();
+    let mut word: [u8; 1024] = array_row::row(0);
     let ends = settle_part(part, apex, conflicts, &mut word, row, at);
     ends.rounds
 }
@@ -165,11 +153,9 @@ pub fn group_rounds(
         row.old row.new at result }
 {
     let mut found = most;
-    let mut j = k;
-    while j < 24 {
+    for j in k..24 {
         let count = rounds_at(word, starts, flags, labels, j, conflicts, row, at);
-        found = larger(found, count);
-        j += 1;
+        found = found.max(count);
     }
     found
 }
@@ -192,7 +178,7 @@ fn several_rounds(
         → Counts c core.now (apexes_from flags.now labels.now 24 0) most
         row.old row.new at result }
 {
-    let mut word = sheet();
+    let mut word: [u8; 1024] = array_row::row(0);
     let starts = group(core, labels, &mut word);
     group_rounds(&word, &starts, flags, labels, 0, most, conflicts, row, at)
 }
@@ -215,10 +201,9 @@ pub fn most_rounds(
         → Counts c core.now (apexes_from flags.now labels.now 24 0) most
         row.old row.new at result }
 {
-    let k = lone_apex(flags, labels);
-    if 24 <= k {
+    let Some(k) = lone_apex(flags, labels) else {
         return several_rounds(core, flags, labels, most, conflicts, row, at);
-    }
+    };
     let count = apex_rounds(core, labels, k, conflicts, row, at);
-    larger(most, count)
+    most.max(count)
 }

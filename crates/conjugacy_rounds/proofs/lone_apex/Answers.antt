@@ -1,9 +1,9 @@
 -- `conjugacy_rounds::lone_apex` meets its contract: behind the first apex there is no other. Assumes nothing.
-use native.Mathlib.Omega.{arith}
+use Rattle.std.proofs.Common.{arith}
 use Rattle.conjugacy_rounds.specs.ApexesLaws.{lone_apex}
 use Rattle.conjugacy_rounds.proofs.lone_apex.Goals as goal
 
-pub returns : goal.returns
-returns c =
-    lone_apex c.next_apex-first.ensures (omega (arith, c.next_apex-first.ensures.within, c.if-first-eq24.false))
-    c.next_apex.ensures (omega arith)
+pub returns-in-None : goal.returns-in-None
+returns-in-None c =
+    let (l, f) = c.in_ok-first.ensures in
+    (l, lone_apex f l c.in-None.ensures (omega arith))
