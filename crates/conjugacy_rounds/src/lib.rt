@@ -18,41 +18,44 @@ pub fn larger(a: usize, b: usize) -> usize
     if a < b { b } else { a }
 }
 
-// Whether command k + 1 is an apex: it occurs, and it is its own label.
-pub fn is_apex(flags: &[u16; 24], labels: &[u8; 24], k: usize) -> bool
-    requires { k < 24 }
-    ensures { (result ≡ true) ↔ Apex flags.now labels.now k }
-{
-    if flags[k] != 1 {
-        return false;
-    }
-    if labels[k] != (k + 1) as u8 {
-        return false;
-    }
-    true
+// Which commands occur in a core, as flags, and the label of each: the largest command of its part.
+#[derive(Clone, Copy)]
+pub struct Parts {
+    pub flags: [u16; 24],
+    pub labels: [u8; 24],
 }
 
-// The place of the next apex from command k + 1 on.
-fn next_apex(flags: &[u16; 24], labels: &[u8; 24], k: usize) -> Option<usize>
-    requires { k ≤ 24 }
-    ensures { NextFound flags.now labels.now k result }
-{
-    for j in k..24 {
-        if is_apex(flags, labels, j) {
-            return Some(j);
+impl Parts {
+    // Whether command k + 1 is an apex: it occurs, and it is its own label.
+    pub fn is_apex(&self, k: usize) -> bool
+        requires { k < 24 }
+        ensures { (result ≡ true) ↔ Apex self.now.flags self.now.labels k }
+    {
+        self.flags[k] == 1 && self.labels[k] == (k + 1) as u8
+    }
+
+    // The place of the next apex from command k + 1 on.
+    fn next_apex(&self, k: usize) -> Option<usize>
+        requires { k ≤ 24 }
+        ensures { NextFound self.now.flags self.now.labels k result }
+    {
+        for j in k..24 {
+            if self.is_apex(j) {
+                return Some(j);
+            }
         }
+        None
     }
-    None
-}
 
-// The place of the only apex, where there is just one.
-pub fn lone_apex(flags: &[u16; 24], labels: &[u8; 24]) -> Option<usize>
-    ensures { LoneFound flags.now labels.now result }
-{
-    let first = next_apex(flags, labels, 0)?;
-    match next_apex(flags, labels, first + 1) {
-        Some(_) => None,
-        None => Some(first),
+    // The place of the only apex, where there is just one.
+    pub fn lone_apex(&self) -> Option<usize>
+        ensures { LoneFound self.now.flags self.now.labels result }
+    {
+        let first = self.next_apex(0)?;
+        match self.next_apex(first + 1) {
+            Some(_) => None,
+            None => Some(first),
+        }
     }
 }
 
@@ -108,27 +111,26 @@ fn apex_rounds(
 fn rounds_at(
     word: &[u8],
     starts: &[u16; 26],
-    flags: &[u16; 24],
-    labels: &[u8; 24],
+    parts: &Parts,
     k: usize,
     conflicts: &[[u16; 24]; 24],
     row: &mut [u8],
     at: usize,
 ) -> usize
     requires { (k < 24) × ((c : List ℕ) × (x : List ℕ)
-        × GroupOf c conflicts.now x word.now starts.now flags.now labels.now row.old at) }
+        × GroupOf c conflicts.now x word.now starts.now parts.now.flags parts.now.labels row.old at) }
     ensures { (c x : List ℕ)
-        → GroupOf c conflicts.now x word.now starts.now flags.now
-        labels.now row.old at
-        → Counts c x (apex_at flags.now labels.now k) 0 row.old
+        → GroupOf c conflicts.now x word.now starts.now parts.now.flags
+        parts.now.labels row.old at
+        → Counts c x (apex_at parts.now.flags parts.now.labels k) 0 row.old
         row.new at result }
 {
-    if !is_apex(flags, labels, k) {
+    if !parts.is_apex(k) {
         return 0;
     }
     let from = starts[k + 1] as usize;
     let to = starts[k + 2] as usize;
-    apex_rounds(&word[from..to], labels, k, conflicts, row, at)
+    apex_rounds(&word[from..to], &parts.labels, k, conflicts, row, at)
 }
 
 // The largest number that a part of a grouped core needs whose apex is command k + 1 or a later one, or `most` if that
@@ -136,8 +138,7 @@ fn rounds_at(
 pub fn group_rounds(
     word: &[u8],
     starts: &[u16; 26],
-    flags: &[u16; 24],
-    labels: &[u8; 24],
+    parts: &Parts,
     k: usize,
     most: usize,
     conflicts: &[[u16; 24]; 24],
@@ -145,16 +146,16 @@ pub fn group_rounds(
     at: usize,
 ) -> usize
     requires { (k ≤ 24) × ((c : List ℕ) × (x : List ℕ)
-        × GroupOf c conflicts.now x word.now starts.now flags.now labels.now row.old at) }
+        × GroupOf c conflicts.now x word.now starts.now parts.now.flags parts.now.labels row.old at) }
     ensures { (c x : List ℕ)
-        → GroupOf c conflicts.now x word.now starts.now flags.now
-        labels.now row.old at
-        → Counts c x (apexes_from flags.now labels.now (24 - k) k) most
+        → GroupOf c conflicts.now x word.now starts.now parts.now.flags
+        parts.now.labels row.old at
+        → Counts c x (apexes_from parts.now.flags parts.now.labels (24 - k) k) most
         row.old row.new at result }
 {
     let mut found = most;
     for j in k..24 {
-        let count = rounds_at(word, starts, flags, labels, j, conflicts, row, at);
+        let count = rounds_at(word, starts, parts, j, conflicts, row, at);
         found = found.max(count);
     }
     found
@@ -163,47 +164,45 @@ pub fn group_rounds(
 // The largest number that a part needs of a core that is grouped for it, or `most` if that is larger.
 fn several_rounds(
     core: &[u8],
-    flags: &[u16; 24],
-    labels: &[u8; 24],
+    parts: &Parts,
     most: usize,
     conflicts: &[[u16; 24]; 24],
     row: &mut [u8],
     at: usize,
 ) -> usize
     requires { (c : List ℕ)
-        × CoreOf c conflicts.now core.now flags.now labels.now row.old at }
+        × CoreOf c conflicts.now core.now parts.now.flags parts.now.labels row.old at }
     ensures { (c : List ℕ)
-        → CoreOf c conflicts.now core.now flags.now labels.now
+        → CoreOf c conflicts.now core.now parts.now.flags parts.now.labels
         row.old at
-        → Counts c core.now (apexes_from flags.now labels.now 24 0) most
+        → Counts c core.now (apexes_from parts.now.flags parts.now.labels 24 0) most
         row.old row.new at result }
 {
     let mut word: [u8; 1024] = array_row::row(0);
-    let starts = group(core, labels, &mut word);
-    group_rounds(&word, &starts, flags, labels, 0, most, conflicts, row, at)
+    let starts = group(core, &parts.labels, &mut word);
+    group_rounds(&word, &starts, parts, 0, most, conflicts, row, at)
 }
 
 // The largest number that a part of the core needs, or `most` if that is larger. A core with one part is that part.
 pub fn most_rounds(
     core: &[u8],
-    flags: &[u16; 24],
-    labels: &[u8; 24],
+    parts: &Parts,
     most: usize,
     conflicts: &[[u16; 24]; 24],
     row: &mut [u8],
     at: usize,
 ) -> usize
     requires { (c : List ℕ)
-        × CoreOf c conflicts.now core.now flags.now labels.now row.old at }
+        × CoreOf c conflicts.now core.now parts.now.flags parts.now.labels row.old at }
     ensures { (c : List ℕ)
-        → CoreOf c conflicts.now core.now flags.now labels.now
+        → CoreOf c conflicts.now core.now parts.now.flags parts.now.labels
         row.old at
-        → Counts c core.now (apexes_from flags.now labels.now 24 0) most
+        → Counts c core.now (apexes_from parts.now.flags parts.now.labels 24 0) most
         row.old row.new at result }
 {
-    let Some(k) = lone_apex(flags, labels) else {
-        return several_rounds(core, flags, labels, most, conflicts, row, at);
+    let Some(k) = parts.lone_apex() else {
+        return several_rounds(core, parts, most, conflicts, row, at);
     };
-    let count = apex_rounds(core, labels, k, conflicts, row, at);
+    let count = apex_rounds(core, &parts.labels, k, conflicts, row, at);
     most.max(count)
 }

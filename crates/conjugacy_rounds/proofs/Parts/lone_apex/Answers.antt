@@ -1,7 +1,7 @@
--- `conjugacy_rounds::lone_apex` meets its contract: behind the first apex there is no other. Assumes nothing.
+-- `conjugacy_rounds::Parts::lone_apex` meets its contract: behind the first apex there is no other. Assumes nothing.
 use Rattle.std.proofs.Common.{arith}
 use Rattle.conjugacy_rounds.specs.ApexesLaws.{lone_apex}
-use Rattle.conjugacy_rounds.proofs.lone_apex.Goals as goal
+use Rattle.conjugacy_rounds.proofs.Parts.lone_apex.Goals as goal
 
 pub returns-in-None : goal.returns-in-None
 returns-in-None c =

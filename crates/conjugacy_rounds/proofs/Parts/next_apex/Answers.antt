@@ -1,9 +1,9 @@
--- `conjugacy_rounds::next_apex` meets its contract. The loop's invariant: the apexes from k on are those from j on. The
--- measure is what is left of the 24 commands. Assumes nothing.
+-- `conjugacy_rounds::Parts::next_apex` meets its contract. The loop's invariant: the apexes from k on are those
+-- from j on. Assumes nothing.
 use mathlib.Core.Path.{sym, ◌∙◌}
 use mathlib.Core.Bool.{true≢false}
 use Rattle.conjugacy_rounds.specs.ApexesLaws.{searching_again}
-use Rattle.conjugacy_rounds.proofs.next_apex.Goals as goal
+use Rattle.conjugacy_rounds.proofs.Parts.next_apex.Goals as goal
 
 pub loop-j-preserved : goal.loop-j-preserved
 loop-j-preserved c =
