@@ -4,9 +4,8 @@ use Rattle.std.proofs.Common.{◌-◌, length}
 use Rattle.long_read.specs.ReadLaws.{Underway}
 use Rattle.long_read.proofs.read_off.Given as goal
 
-abbrev pub invariant-loop-k : goal.invariant-loop-k
-invariant-loop-k l =
-    Underway l.conflicts l.word l.under l.link l.initial.tops l.initial.marks l.initial.heights l.initial.area l.tops l.marks l.heights l.area l.l l.k
+abbrev pub invariant-loop-next : goal.invariant-loop-next
+invariant-loop-next g l = Underway l.conflicts l.word l.initial.stacks l.initial.area l.stacks l.area l.l l.next
 
-abbrev pub decreases-loop-k : goal.decreases-loop-k
-decreases-loop-k l = length l.initial.area - l.l
+abbrev pub decreases-loop-next : goal.decreases-loop-next
+decreases-loop-next g l = length l.initial.area - l.l
