@@ -4,12 +4,14 @@
 
 #![tactic(auto)]
 
-ghost use Rattle.std.specs.Prelude.{◌≡◌};
-ghost use Rattle.spec.specs.Table.{line, number_of, refused as refused_by};
+ghost use Rattle.std.specs.Prelude.{◌≡◌, ℕ, Bool, ◌≤◌, MatchOption, IfSome};
+ghost use Rattle.std.proofs.Math.Option.{none, some};
+ghost use Rattle.spec.specs.Table.{line, number_of, refused as refused_by, first_of};
 ghost use Rattle.input_catalogue.specs.Checked.{told_checked};
-ghost use Rattle.spec.specs.Catalogue.{head_line, next_line, record_line};
+ghost use Rattle.spec.specs.Catalogue.{records, head_line, next_line, record_line};
 ghost use Rattle.input_layout.specs.Laid.{Laid, Framed};
 ghost use Rattle.input_catalogue.specs.Sound.{Decides, frame_line, sound_line};
+ghost use Rattle.input_catalogue.specs.SoundLaws.{wrong_command};
 
 use input_layout::{Layout, command_of, command_place, head_of, head_place, next_of, size_of};
 use spec::{Reason, Refusal};
@@ -42,55 +44,67 @@ fn framed(c: &[u8], layout: Layout) -> Result<usize, Refusal>
     Ok(layout.commands)
 }
 
+// The first number from 1 to n that is wrong, if one is.
+pub fn first_wrong<F: Fn(usize) -> bool>(n: usize, wrong: F) -> Option<usize>
+    requires small { n ≤ 65535 }
+    requires callable { (i : ℕ) → 1 ≤ i → i ≤ n → F.pre wrong i }
+    ensures first { (p : ℕ → Bool) → ((i : ℕ) (b : Bool) → 1 ≤ i → i ≤ n → F.post wrong i b → b ≡ p i)
+        → MatchOption result (first_of p n 1 ≡ none) (λ i. first_of p n 1 ≡ some i) }
+    ensures in_range { IfSome result (λ i. (1 ≤ i) × (i ≤ n)) }
+{
+    for i in 1..n + 1 {
+        if wrong(i) {
+            return Some(i);
+        }
+    }
+    None
+}
+
 // Line 3 for the heads.
 fn heads(c: &[u8], layout: Layout) -> Result<usize, Refusal>
-    requires fact_1 { Laid c.now layout }
-    requires fact_2 { Framed c.now }
+    requires laid { Laid c.now layout }
+    requires framed { Framed c.now }
     ensures { Decides c.now (head_line c.now) result }
 {
-    let mut a = 1;
-    while a <= layout.commands {
-        if layout.records < head_of(c, layout, a) {
-            let place = head_place(layout, a);
-            return refused(Reason::Index, 0, place);
-        }
-        a += 1;
+    match first_wrong(layout.commands, |a| layout.records < head_of(c, layout, a)) {
+        None => Ok(layout.commands),
+        Some(a) => refused(Reason::Index, 0, head_place(layout, a)),
     }
-    Ok(layout.commands)
 }
 
 // Line 3 for the records.
 fn nexts(c: &[u8], layout: Layout) -> Result<usize, Refusal>
-    requires fact_1 { Laid c.now layout }
-    requires fact_2 { Framed c.now }
+    requires laid { Laid c.now layout }
+    requires framed { Framed c.now }
     ensures { Decides c.now (next_line c.now) result }
 {
-    let mut j = 1;
-    while j <= layout.records {
-        if layout.records < next_of(c, layout, j) {
-            return refused(Reason::Index, 0, command_place(layout, j) + 1);
-        }
-        j += 1;
+    match first_wrong(layout.records, |j| layout.records < next_of(c, layout, j)) {
+        None => Ok(layout.commands),
+        Some(j) => refused(Reason::Index, 0, command_place(layout, j) + 1),
     }
-    Ok(layout.commands)
+}
+
+// Whether the record of number j names no command.
+fn names_none(c: &[u8], layout: Layout, j: usize) -> bool
+    requires laid { Laid c.now layout }
+    requires framed { Framed c.now }
+    requires in_range { (1 ≤ j) × (j ≤ records c.now) }
+    ensures { result ≡ wrong_command c.now j }
+{
+    let k = command_of(c, layout, j);
+    k == 0 || layout.commands < k
 }
 
 // Line 4.
 fn named(c: &[u8], layout: Layout) -> Result<usize, Refusal>
-    requires fact_1 { Laid c.now layout }
-    requires fact_2 { Framed c.now }
+    requires laid { Laid c.now layout }
+    requires framed { Framed c.now }
     ensures { Decides c.now (record_line c.now) result }
 {
-    let mut j = 1;
-    while j <= layout.records {
-        let k = command_of(c, layout, j);
-        if k == 0 || layout.commands < k {
-            let place = command_place(layout, j);
-            return refused(Reason::RecordCommand, 0, place);
-        }
-        j += 1;
+    match first_wrong(layout.records, |j| names_none(c, layout, j)) {
+        None => Ok(layout.commands),
+        Some(j) => refused(Reason::RecordCommand, 0, command_place(layout, j)),
     }
-    Ok(layout.commands)
 }
 
 // Lines 1, 2, 17, 3 and 4.
