@@ -8,12 +8,11 @@ ghost use Rattle.std.proofs.Math.Option.{none};
 ghost use Rattle.spec.specs.Catalogue.{commands, records, head, ends, endless_line, own_line};
 ghost use Rattle.input_layout.specs.Laid.{Laid, Framed};
 ghost use Rattle.input_catalogue.specs.Sound.{Decides, Sound};
-ghost use Rattle.input_chains.specs.Marking.{Shape};
 ghost use Rattle.input_conflicts.specs.MarkedRows.{Blank, Met, diagonal as diagonalOf};
 ghost use Rattle.input_conflicts.specs.Known.{NoneKnown, Chained, Known};
 ghost use Rattle.input_conflicts.specs.Reading.{Reading};
 
-use input_catalogue::refused;
+use input_catalogue::{first_wrong, refused};
 use input_chains::{mark_like, walk};
 use input_layout::{Layout, head_of, head_place, layout_of};
 use spec::{Reason, Refusal};
@@ -27,11 +26,11 @@ fn chain_of(
     own: &mut [[u16; 24]; 24],
     firsts: &mut [u8],
 ) -> bool
-    requires fact_1 { Laid c.now layout × Sound c.now }
-    requires fact_2 { Chained c.now a rows.old }
-    requires fact_3 { Known c.now a own.old firsts.old }
-    requires fact_4 { 1 ≤ a }
-    requires fact_5 { a ≤ commands c.now }
+    requires laid { Laid c.now layout }
+    requires sound { Sound c.now }
+    requires chained { Chained c.now a rows.old }
+    requires known { Known c.now a own.old firsts.old }
+    requires in_range { (1 ≤ a) × (a ≤ commands c.now) }
     ensures value { result ≡ ends c.now (records c.now) (head c.now a) }
     ensures chained { result ≡ true → Chained c.now (a + 1) rows.new }
     ensures known { result ≡ true → Known c.now (a + 1) own.new firsts.new }
@@ -54,52 +53,42 @@ fn each_chain(
     own: &mut [[u16; 24]; 24],
     firsts: &mut [u8],
 ) -> Result<usize, Refusal>
-    requires fact_1 { Laid c.now layout × Sound c.now }
-    requires fact_2 { Blank rows.old }
-    requires fact_3 { Blank own.old }
-    requires fact_4 { NoneKnown firsts.old }
-    requires fact_5 { records c.now < length firsts.old }
+    requires laid { Laid c.now layout }
+    requires sound { Sound c.now }
+    requires blank { Blank rows.old }
+    requires own_blank { Blank own.old }
+    requires none_known { NoneKnown firsts.old }
+    requires room { records c.now < length firsts.old }
     ensures decides { Decides c.now (endless_line c.now) result }
     ensures met { endless_line c.now ≡ none → Met c.now rows.new }
 {
-    let mut a = 1;
-    while a <= layout.commands {
+    for a in 1..layout.commands + 1 {
         if !chain_of(c, layout, a, rows, own, firsts) {
-            let place = head_place(layout, a);
-            return refused(Reason::EndlessChain, 0, place);
+            return refused(Reason::EndlessChain, 0, head_place(layout, a));
         }
-        a += 1;
     }
     Ok(layout.commands)
 }
 
 // Line 6: a command that stands in its own chain is marked against itself.
 fn own_chain(c: &[u8], layout: Layout, rows: &[[u16; 24]; 24]) -> Result<usize, Refusal>
-    requires fact_1 { Laid c.now layout }
-    requires fact_2 { Framed c.now }
-    requires fact_3 { Met c.now rows.now }
+    requires laid { Laid c.now layout }
+    requires framed { Framed c.now }
+    requires met { Met c.now rows.now }
     ensures { Decides c.now (own_line c.now) result }
 {
-    let mut a = 1;
-    while a <= layout.commands {
-        if rows[a - 1][a - 1] != 0 {
-            let place = head_place(layout, a);
-            return refused(Reason::OwnChain, 0, place);
-        }
-        a += 1;
+    match first_wrong(layout.commands, |a| rows[a - 1][a - 1] != 0) {
+        None => Ok(layout.commands),
+        Some(a) => refused(Reason::OwnChain, 0, head_place(layout, a)),
     }
-    Ok(layout.commands)
 }
 
 // Marks every command against itself.
 fn diagonal(rows: &mut [[u16; 24]; 24])
-    requires { Shape rows.old }
     ensures { rows.new ≡ diagonalOf rows.old 24 }
 {
-    let mut i = 0;
-    while i < 24 {
-        rows[i][i] = 1;
-        i += 1;
+    for (i, row) in rows.iter_mut().enumerate() {
+        row[i] = 1;
     }
 }
 
@@ -110,35 +99,28 @@ pub fn blank() -> [[u16; 24]; 24]
     [[0; 24]; 24]
 }
 
-// No command known for any head of up to 255.
-fn few_known() -> [u8; 256]
+// No command known for any head below N.
+fn none_known<const N: usize>() -> [u8; N]
     ensures none { NoneKnown result }
-    ensures long { length result ≡ 256 }
+    ensures long { length result ≡ N }
 {
-    [0; 256]
-}
-
-// No command known for any head of up to 1,024.
-fn many_known() -> [u8; 1025]
-    ensures none { NoneKnown result }
-    ensures long { length result ≡ 1025 }
-{
-    [0; 1025]
+    [0; N]
 }
 
 // Line 5, with room for the heads that R records can have.
 fn chains(c: &[u8], layout: Layout, rows: &mut [[u16; 24]; 24]) -> Result<usize, Refusal>
-    requires fact_1 { Laid c.now layout × Sound c.now }
-    requires fact_2 { Blank rows.old }
+    requires laid { Laid c.now layout }
+    requires sound { Sound c.now }
+    requires blank { Blank rows.old }
     ensures decides { Decides c.now (endless_line c.now) result }
     ensures met { endless_line c.now ≡ none → Met c.now rows.new }
 {
     let mut own = blank();
     if layout.records < 256 {
-        let mut firsts = few_known();
+        let mut firsts = none_known::<256>();
         return each_chain(c, layout, rows, &mut own, &mut firsts);
     }
-    let mut firsts = many_known();
+    let mut firsts = none_known::<1025>();
     each_chain(c, layout, rows, &mut own, &mut firsts)
 }
 

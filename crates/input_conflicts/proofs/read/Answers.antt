@@ -6,8 +6,8 @@ use Rattle.input_conflicts.specs.ReadingLaws.{sound_passed, all_refused, all_pas
 use Rattle.input_conflicts.specs.ChainLaws.{met_conflicts}
 use Rattle.input_conflicts.proofs.read.Goals as goal
 
-pub chains-requires-clause-fact_1 : goal.chains-requires-clause-fact_1
-chains-requires-clause-fact_1 c = (c.layout_of-layout.ensures, sound_passed c.args.catalogue.now c.in_ok-check.ensures)
+pub chains-requires-clause-sound : goal.chains-requires-clause-sound
+chains-requires-clause-sound c = sound_passed c.args.catalogue.now c.in_ok-check.ensures
 
 pub returns-in_err-commands : goal.returns-in_err-commands
 returns-in_err-commands c =
