@@ -3,7 +3,7 @@
 
 #![tactic(auto)]
 
-ghost use Rattle.std.specs.Prelude.{◌<◌, ◌≡◌, true, ◌↔◌, length};
+ghost use Rattle.std.specs.Prelude.{◌<◌, ◌≡◌, true, not, ◌↔◌, length, position};
 ghost use Rattle.spec.specs.Table.{or_else, first_line};
 ghost use Rattle.input_catalogue.specs.Checked.{told_checked};
 ghost use Rattle.spec.specs.Plan.{passes, first_bad, plan_lines, Passing};
@@ -27,57 +27,40 @@ fn passing(b: u8, commands: usize) -> bool
     k - 128 <= commands
 }
 
-// 0 for a byte that passes, 1 for one that does not.
-fn fault(b: u8, commands: u8) -> u8
+// Whether a byte does not pass, with fewer than 128 commands.
+fn fails(b: u8, commands: u8) -> bool
     requires { commands < 128 }
-    ensures { (result ≡ 0) ↔ (passes commands b ≡ true) }
+    ensures { result ≡ not (passes commands b) }
 {
-    if b == 128 {
-        return 1;
-    }
-    if commands < b % 128 {
-        return 1;
-    }
-    0
+    b == 128 || commands < b % 128
 }
 
-// Whether every byte passes. The faults are gathered, with no way out of the loop, so that many bytes are tested at a
+// Whether every byte passes. What fails is gathered, with no way out of the loop, so that many bytes are tested at a
 // time.
 fn all_pass(plan: &[u8], commands: u8) -> bool
     requires { commands < 128 }
     ensures { (result ≡ true) ↔ Passing commands plan.now }
 {
-    let mut faults: u8 = 0;
-    let mut j = 0;
-    while j < plan.len() {
-        faults |= fault(plan[j], commands);
-        j += 1;
+    let mut failed = false;
+    for b in plan {
+        failed |= fails(*b, commands);
     }
-    faults == 0
+    !failed
 }
 
 // The first byte that does not pass, byte by byte.
 fn find_bad(plan: &[u8], commands: usize) -> Option<usize>
-    ensures { told_place result ≡ first_bad commands plan.now }
+    ensures { result ≡ position (λ b. not (passes commands b)) plan.now }
 {
-    let mut i = 0;
-    while i < plan.len() {
-        if !passing(plan[i], commands) {
-            return Some(i);
-        }
-        i += 1;
-    }
-    None
+    plan.iter().position(|b| !passing(*b, commands))
 }
 
 // The first byte that does not pass. Where there is none the byte by byte search is spared.
 fn first_bad(plan: &[u8], commands: usize) -> Option<usize>
     ensures { told_place result ≡ first_bad commands plan.now }
 {
-    if commands < 128 {
-        if all_pass(plan, commands as u8) {
-            return None;
-        }
+    if commands < 128 && all_pass(plan, commands as u8) {
+        return None;
     }
     find_bad(plan, commands)
 }
