@@ -21,13 +21,10 @@ pub fn index(c: &[u8], k: usize) -> usize
     ensures { result < 65536 }
 {
     let low = at(c, k) as usize;
-    if !is_second(c) {
+    if !is_second(c) || c.len() <= k {
         return low;
     }
-    if c.len() <= k {
-        return low;
-    }
-    low + 256 * (at(c, k + 1) as usize)
+    low + 256 * at(c, k + 1) as usize
 }
 
 // R.
@@ -40,9 +37,10 @@ pub fn records(c: &[u8]) -> usize
 // The place of the head of a command.
 fn head(c: &[u8], command: u8) -> usize {
     if is_second(c) {
-        return 1 + 2 * (command as usize);
+        1 + 2 * command as usize
+    } else {
+        1 + command as usize
     }
-    1 + command as usize
 }
 
 // The place of a record.
@@ -51,19 +49,21 @@ fn record(c: &[u8], index: usize) -> usize
     ensures { result < 200000 }
 {
     if is_second(c) {
-        return 2 * commands(c) + 3 * index;
+        2 * commands(c) + 3 * index
+    } else {
+        commands(c) + 2 * index
     }
-    commands(c) + 2 * index
 }
 
 // Follows the chain of a head. Gives the record at which it stops: one of the command whose head is the goal, or 0 at
 // the chain's end, or any after 1,025 of them.
 pub fn walk(c: &[u8], start: usize, goal: usize) -> usize {
     let mut j = index(c, start);
-    let mut turn: usize = 0;
-    while turn < 1025 && j != 0 && head(c, at(c, record(c, j))) != goal {
+    for _turn in 0..1025 {
+        if j == 0 || head(c, at(c, record(c, j))) == goal {
+            break;
+        }
         j = index(c, record(c, j) + 1);
-        turn += 1;
     }
     j
 }
