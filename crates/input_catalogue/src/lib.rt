@@ -9,11 +9,11 @@ ghost use Rattle.std.proofs.Math.Option.{none, some};
 ghost use Rattle.spec.specs.Table.{line, number_of, refused as refused_by, first_of};
 ghost use Rattle.input_catalogue.specs.Checked.{told_checked};
 ghost use Rattle.spec.specs.Catalogue.{records, head_line, next_line, record_line};
-ghost use Rattle.input_layout.specs.Laid.{Laid, Framed};
+ghost use Rattle.input_layout.specs.Laid.{Framed};
 ghost use Rattle.input_catalogue.specs.Sound.{Decides, frame_line, sound_line};
 ghost use Rattle.input_catalogue.specs.SoundLaws.{wrong_command};
 
-use input_layout::{Layout, command_of, command_place, head_of, head_place, next_of, size_of};
+use input_layout::Catalogue;
 use spec::{Reason, Refusal};
 
 // The plan of this number is refused, for this reason and at this place; the catalogue counts as plan 0.
@@ -28,20 +28,19 @@ pub fn refused(reason: Reason, plan: u8, place: usize) -> Result<usize, Refusal>
 }
 
 // Lines 1, 2 and 17.
-fn framed(c: &[u8], layout: Layout) -> Result<usize, Refusal>
-    requires { Laid c.now layout }
-    ensures { Decides c.now (frame_line c.now) result }
+fn framed(c: &Catalogue) -> Result<usize, Refusal>
+    ensures { Decides c.now.bytes.now (frame_line c.now.bytes.now) result }
 {
-    if c.len() != size_of(layout) {
+    if c.bytes.len() != c.size() {
         return refused(Reason::CatalogueSize, 0, 0);
     }
-    if 24 < layout.commands {
+    if 24 < c.layout.commands {
         return refused(Reason::CommandCount, 0, 0);
     }
-    if 1024 < layout.records {
+    if 1024 < c.layout.records {
         return refused(Reason::RecordCount, 0, 1);
     }
-    Ok(layout.commands)
+    Ok(c.layout.commands)
 }
 
 // The first number from 1 to n that is wrong, if one is.
@@ -61,59 +60,54 @@ pub fn first_wrong<F: Fn(usize) -> bool>(n: usize, wrong: F) -> Option<usize>
 }
 
 // Line 3 for the heads.
-fn heads(c: &[u8], layout: Layout) -> Result<usize, Refusal>
-    requires laid { Laid c.now layout }
-    requires framed { Framed c.now }
-    ensures { Decides c.now (head_line c.now) result }
+fn heads(c: &Catalogue) -> Result<usize, Refusal>
+    requires { Framed c.now.bytes.now }
+    ensures { Decides c.now.bytes.now (head_line c.now.bytes.now) result }
 {
-    match first_wrong(layout.commands, |a| layout.records < head_of(c, layout, a)) {
-        None => Ok(layout.commands),
-        Some(a) => refused(Reason::Index, 0, head_place(layout, a)),
+    match first_wrong(c.layout.commands, |a| c.layout.records < c.head_of(a)) {
+        None => Ok(c.layout.commands),
+        Some(a) => refused(Reason::Index, 0, c.head_place(a)),
     }
 }
 
 // Line 3 for the records.
-fn nexts(c: &[u8], layout: Layout) -> Result<usize, Refusal>
-    requires laid { Laid c.now layout }
-    requires framed { Framed c.now }
-    ensures { Decides c.now (next_line c.now) result }
+fn nexts(c: &Catalogue) -> Result<usize, Refusal>
+    requires { Framed c.now.bytes.now }
+    ensures { Decides c.now.bytes.now (next_line c.now.bytes.now) result }
 {
-    match first_wrong(layout.records, |j| layout.records < next_of(c, layout, j)) {
-        None => Ok(layout.commands),
-        Some(j) => refused(Reason::Index, 0, command_place(layout, j) + 1),
+    match first_wrong(c.layout.records, |j| c.layout.records < c.next_of(j)) {
+        None => Ok(c.layout.commands),
+        Some(j) => refused(Reason::Index, 0, c.command_place(j) + 1),
     }
 }
 
 // Whether the record of number j names no command.
-fn names_none(c: &[u8], layout: Layout, j: usize) -> bool
-    requires laid { Laid c.now layout }
-    requires framed { Framed c.now }
-    requires in_range { (1 ≤ j) × (j ≤ records c.now) }
-    ensures { result ≡ wrong_command c.now j }
+fn names_none(c: &Catalogue, j: usize) -> bool
+    requires framed { Framed c.now.bytes.now }
+    requires in_range { (1 ≤ j) × (j ≤ records c.now.bytes.now) }
+    ensures { result ≡ wrong_command c.now.bytes.now j }
 {
-    let k = command_of(c, layout, j);
-    k == 0 || layout.commands < k
+    let k = c.command_of(j);
+    k == 0 || c.layout.commands < k
 }
 
 // Line 4.
-fn named(c: &[u8], layout: Layout) -> Result<usize, Refusal>
-    requires laid { Laid c.now layout }
-    requires framed { Framed c.now }
-    ensures { Decides c.now (record_line c.now) result }
+fn named(c: &Catalogue) -> Result<usize, Refusal>
+    requires { Framed c.now.bytes.now }
+    ensures { Decides c.now.bytes.now (record_line c.now.bytes.now) result }
 {
-    match first_wrong(layout.records, |j| names_none(c, layout, j)) {
-        None => Ok(layout.commands),
-        Some(j) => refused(Reason::RecordCommand, 0, command_place(layout, j)),
+    match first_wrong(c.layout.records, |j| names_none(c, j)) {
+        None => Ok(c.layout.commands),
+        Some(j) => refused(Reason::RecordCommand, 0, c.command_place(j)),
     }
 }
 
 // Lines 1, 2, 17, 3 and 4.
-pub fn check(c: &[u8], layout: Layout) -> Result<usize, Refusal>
-    requires { Laid c.now layout }
-    ensures { Decides c.now (sound_line c.now) result }
+pub fn check(c: &Catalogue) -> Result<usize, Refusal>
+    ensures { Decides c.now.bytes.now (sound_line c.now.bytes.now) result }
 {
-    framed(c, layout)?;
-    heads(c, layout)?;
-    nexts(c, layout)?;
-    named(c, layout)
+    framed(c)?;
+    heads(c)?;
+    nexts(c)?;
+    named(c)
 }

@@ -5,11 +5,10 @@
 
 ghost use Rattle.std.specs.Prelude.{◌≡◌, [], get_or, ◌-◌, ◌≤◌};
 ghost use Rattle.spec.specs.Catalogue.{commands, records, head, ends, chain};
-ghost use Rattle.input_layout.specs.Laid.{Laid};
 ghost use Rattle.input_catalogue.specs.Sound.{Sound};
 ghost use Rattle.input_chains.specs.Marking.{Shape, InRows, pair, pairs, note, notes, members};
 
-use input_layout::{Layout, command_of, head_of, next_of};
+use input_layout::Catalogue;
 
 // Marks that two commands conflict, in the rows of both.
 fn mark(a: usize, b: usize, rows: &mut [[u16; 24]; 24])
@@ -34,29 +33,22 @@ fn meet(a: usize, b: usize, rows: &mut [[u16; 24]; 24], own: &mut [[u16; 24]; 24
 
 // Follows the chain of command a, of at most R records, and marks each command that it meets; which they are is also
 // noted in row a of own. Tells whether it ends.
-pub fn walk(
-    c: &[u8],
-    layout: Layout,
-    a: usize,
-    rows: &mut [[u16; 24]; 24],
-    own: &mut [[u16; 24]; 24],
-) -> bool
-    requires laid { Laid c.now layout }
-    requires sound { Sound c.now }
+pub fn walk(c: &Catalogue, a: usize, rows: &mut [[u16; 24]; 24], own: &mut [[u16; 24]; 24]) -> bool
+    requires sound { Sound c.now.bytes.now }
     requires shape { Shape rows.old }
     requires own_shape { Shape own.old }
-    requires in_range { (1 ≤ a) × (a ≤ commands c.now) }
-    ensures value { result ≡ ends c.now (records c.now) (head c.now a) }
-    ensures rows_after { rows.new ≡ pairs rows.old a (chain c.now a) }
-    ensures own_after { own.new ≡ notes own.old a (chain c.now a) }
+    requires in_range { (1 ≤ a) × (a ≤ commands c.now.bytes.now) }
+    ensures value { result ≡ ends c.now.bytes.now (records c.now.bytes.now) (head c.now.bytes.now a) }
+    ensures rows_after { rows.new ≡ pairs rows.old a (chain c.now.bytes.now a) }
+    ensures own_after { own.new ≡ notes own.old a (chain c.now.bytes.now a) }
 {
-    let mut at = head_of(c, layout, a);
-    for _ in 0..layout.records {
+    let mut at = c.head_of(a);
+    for _ in 0..c.layout.records {
         if at == 0 {
             return true;
         }
-        meet(a, command_of(c, layout, at), rows, own);
-        at = next_of(c, layout, at);
+        meet(a, c.command_of(at), rows, own);
+        at = c.next_of(at);
     }
     at == 0
 }

@@ -7,7 +7,7 @@ ghost use Rattle.std.specs.Prelude.{◌+◌, ◌≤◌, ◌≡◌};
 ghost use Rattle.spec.specs.Framing.{plan_end};
 ghost use Rattle.loops_framing.specs.Frame.{frame};
 
-use input_layout::{layout_of, pair_at, size_of};
+use input_layout::{Catalogue, pair_at};
 
 // Where the counts of the two plans stand; the catalogue lies before the first.
 #[derive(Clone, Copy)]
@@ -32,7 +32,7 @@ pub fn framed(s: &[u8]) -> Option<Places>
     if 8192 < s.len() {
         return None;
     }
-    let first = size_of(layout_of(s));
+    let first = Catalogue::of(s).size();
     let second = plan_end(s, first);
     if plan_end(s, second) != s.len() {
         return None;

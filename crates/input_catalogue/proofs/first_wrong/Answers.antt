@@ -1,5 +1,5 @@
 -- `first_wrong` searches. The loop's invariant: the search of every test that the closure computes has come to i.
-use Rattle.std.proofs.Common.{arith, sym, ◌∙◌, true, false}
+use Rattle.std.proofs.Common.{arith, sym, true, false}
 use Rattle.spec_laws.specs.SearchLaws.{search_again, search_hit, search_end}
 use Rattle.input_catalogue.proofs.first_wrong.Goals as goal
 

@@ -11,8 +11,8 @@ loop-j-preserved c =
     let line = get_or a.own.now (a.b - 1) [] in
     let marked : c.if-flag-ne0.rows ≡ marked_if (get_or line c.loop-j.j 0) c.loop-j.rows a.a (c.loop-j.j + 1) =
     elim c.if-flag-ne0.branch [
-      then-flag-ne0 w ↦ w.rows-is ∙ w.mark.ensures ∙ marked_yes _ c.loop-j.rows a.a _ w.if-flag-ne0.true
-    | else-flag-ne0 w ↦ w.rows-is ∙ marked_no _ c.loop-j.rows a.a _ w.if-flag-ne0.false
+      | then-flag-ne0 w ↦ w.rows-is ∙ w.mark.ensures ∙ marked_yes _ c.loop-j.rows a.a _ w.if-flag-ne0.true
+      | else-flag-ne0 w ↦ w.rows-is ∙ marked_no _ c.loop-j.rows a.a _ w.if-flag-ne0.false
     ] in
     marking_again a.a c.requires.marked line (c.requires.own_shape.wide (a.b - 1) (omega arith)) c.loop-j.invariant
     (omega arith) marked

@@ -6,4 +6,4 @@ use Rattle.input_chains.specs.WalkLaws.{Walking}
 use Rattle.input_chains.proofs.walk.Given as goal
 
 abbrev pub invariant-loop : goal.invariant-loop
-invariant-loop l = Walking l.c l.a l.initial.rows l.rows l.initial.own l.own (records l.c - l.counter) l.at
+invariant-loop l = Walking l.c.bytes.now l.a l.initial.rows l.rows l.initial.own l.own (records l.c.bytes.now - l.counter) l.at

@@ -7,7 +7,7 @@ use Rattle.input_conflicts.proofs.chain_of.Goals as goal
 
 pub returns-then-b-ne0 : goal.returns-then-b-ne0
 returns-then-b-ne0 c =
-    let k = c.args.c.now in
+    let k = c.args.c.now.bytes.now in
     let a = c.args.a in
     let q = c.requires in
     let walked = q.known.walked c.head_of-h.result (omega arith) in
@@ -20,7 +20,7 @@ returns-then-b-ne0 c =
 
 pub returns : goal.returns
 returns c =
-    let k = c.args.c.now in
+    let k = c.args.c.now.bytes.now in
     let a = c.args.a in
     let q = c.requires in
     let w = c.walk.ensures in

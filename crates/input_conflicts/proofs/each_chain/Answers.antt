@@ -10,13 +10,13 @@ use Rattle.input_conflicts.proofs.each_chain.Goals as goal
 
 pub returns-then-not-chain_of : goal.returns-then-not-chain_of
 returns-then-not-chain_of c =
-    let cat = c.args.c.now in
-    let h = c.requires.laid in
+    let cat = c.args.c.now.bytes.now in
+    let h = c.args.c.now.laid in
     let stuck = ap not (sym c.chain_of.ensures.value ∙ c.if-not-chain_of.true) in
     let hit = search_hit (endless cat) c.loop-a.invariant.ending (omega (arith, h.commands)) stuck in
     let line = ap (line_at 5 0 (head_place cat)) hit in
     record {
-      decides = decides_at cat 5 0 c.refused.result line c.refused.ensures (c.head_place.ensures cat h);
+      decides = decides_at cat 5 0 c.refused.result line c.refused.ensures c.head_place.ensures;
       met = λ e. absurd (some-none (sym line ∙ e));
     }
 
@@ -26,7 +26,7 @@ loop-a-preserved c =
     let t = c.if-not-chain_of.false in
     record {
       ending =
-          search_again (endless c.args.c.now) c.loop-a.invariant.ending (omega (arith, c.requires.laid.commands))
+          search_again (endless c.args.c.now.bytes.now) c.loop-a.invariant.ending (omega (arith, c.args.c.now.laid.commands))
           (ap not (sym d.value ∙ t));
       chained = d.chained t;
       known = d.known t;
@@ -35,8 +35,8 @@ loop-a-preserved c =
 
 pub returns : goal.returns
 returns c =
-    let cat = c.args.c.now in
-    let h = c.requires.laid in
+    let cat = c.args.c.now.bytes.now in
+    let h = c.args.c.now.laid in
     let g = c.loop-a.invariant in
     let end = search_end (endless cat) g.ending (omega (arith, h.commands)) in
     record {

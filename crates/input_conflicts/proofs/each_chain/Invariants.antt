@@ -10,8 +10,8 @@ use Rattle.input_conflicts.proofs.each_chain.Given as goal
 
 abbrev pub invariant-loop-a : goal.invariant-loop-a
 invariant-loop-a l = record {
-  ending : Searching (endless l.c) (commands l.c) 1 l.a;
-  chained : Chained l.c l.a l.rows;
-  known : Known l.c l.a l.own l.firsts;
+  ending : Searching (endless l.c.bytes.now) (commands l.c.bytes.now) 1 l.a;
+  chained : Chained l.c.bytes.now l.a l.rows;
+  known : Known l.c.bytes.now l.a l.own l.firsts;
   long : length l.firsts ≡ length l.initial.firsts;
 }
