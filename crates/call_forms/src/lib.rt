@@ -85,7 +85,7 @@ pub fn normal_form(catalogue: &[u8], plan: &[u8], area: &mut [u8], pairs: &mut [
 pub fn own_pairs() -> [u16; 1024]
     ensures { 1024 ≡ length result }
 {
-    piling_pairs::blank_places()
+    array_row::row(0)
 }
 
 // The length alone of a normal form.

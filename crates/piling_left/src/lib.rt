@@ -12,10 +12,8 @@ fn blank(word: &mut [u8], places: &[u16])
     requires { All (λ p. p < length word.old) places.now }
     ensures { word.new ≡ blanked word.old places.now }
 {
-    let mut i = 0;
-    while i < places.len() {
-        word[places[i] as usize] = 0;
-        i += 1;
+    for &place in places {
+        word[place as usize] = 0;
     }
 }
 
@@ -32,11 +30,9 @@ fn tally(word: &[u8]) -> [u16; 128]
     ensures { Tallied word.now result }
 {
     let mut counts = no_letters();
-    let mut i = 0;
-    while i < word.len() {
-        let k = (word[i] % 128) as usize;
+    for &byte in word {
+        let k = (byte % 128) as usize;
         counts[k] += 1;
-        i += 1;
     }
     counts
 }
@@ -48,18 +44,16 @@ fn trim_front(word: &mut [u8], counts: [u16; 128], all: usize)
 {
     let mut left = counts;
     let mut more = all;
-    let mut i = 0;
-    while i < word.len() {
+    for byte in word.iter_mut() {
         if more == 0 {
             return;
         }
-        let k = (word[i] % 128) as usize;
+        let k = (*byte % 128) as usize;
         if left[k] != 0 {
             left[k] -= 1;
             more -= 1;
-            word[i] = 0;
+            *byte = 0;
         }
-        i += 1;
     }
 }
 
@@ -70,12 +64,10 @@ fn trim_back(word: &mut [u8], counts: [u16; 128], all: usize)
 {
     let mut left = counts;
     let mut more = all;
-    let mut i = word.len();
-    while 0 < i {
+    for i in (0..word.len()).rev() {
         if more == 0 {
             return;
         }
-        i -= 1;
         let k = (word[i] % 128) as usize;
         if left[k] != 0 {
             left[k] -= 1;
@@ -90,14 +82,12 @@ fn close_up(word: &mut [u8]) -> usize
     ensures { Closed word.old word.new result }
 {
     let mut n = 0;
-    let mut i = 0;
-    while i < word.len() {
+    for i in 0..word.len() {
         let a = word[i];
         word[n] = a;
         if a != 0 {
             n += 1;
         }
-        i += 1;
     }
     n
 }

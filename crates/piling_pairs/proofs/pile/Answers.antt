@@ -13,8 +13,7 @@ use Rattle.piling_pairs.proofs.pile.Goals.{then-letter-ne0, else-letter-ne0}
 
 pub loop-i-init : goal.loop-i-init
 loop-i-init c =
-    piling_start (ap length c.blank_heights-newest.ensures ∙ (piled_blank []).shape.many)
-    (sym c.blank_places-below.ensures)
+    piling_start c.blank-places.ensures.newest c.blank-places.ensures.below
 
 pub overflow_sub-k : goal.overflow_sub-k
 overflow_sub-k c = omega (arith, given_range c.requires.1 c.loop-i.i (omega arith) c.if-letter-ne0.true)
@@ -43,10 +42,10 @@ loop-i-preserved c =
     let h = c.loop-i.invariant in
     elim c.if-letter-ne0.branch [
       | then-letter-ne0 w ↦
-          rw (w.rows-is, w.heights-is, w.pairs-is, w.newest-is, w.below-is, w.read-is, w.n-is)
+          rw (w.piling-is, w.pairs-is, w.places-is, w.read-is, w.n-is)
           (piling_letter h (omega arith) w.if-letter-ne0.true c.requires.2 w.push-step.ensures w.paired-n.ensures)
       | else-letter-ne0 w ↦
-          rw (w.rows-is, w.heights-is, w.pairs-is, w.newest-is, w.below-is, w.read-is, w.n-is)
+          rw (w.piling-is, w.pairs-is, w.places-is, w.read-is, w.n-is)
           (piling_filler h (omega arith) w.if-letter-ne0.false)
     ]
 

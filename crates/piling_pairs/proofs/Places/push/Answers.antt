@@ -1,10 +1,10 @@
--- `piling_pairs::push` meets its contract: a letter that cancels does so with the newest of its command.
+-- `piling_pairs::Places::push` meets its contract: a letter that cancels does so with the newest of its command.
 use native.Mathlib.Omega.{arith}
 use mathlib.Core.Path.{refl}
 use Rattle.spec.specs.Pairs.{bytes_of}
 use Rattle.piling_stacks.specs.PilingLaws.{still_ready}
 use Rattle.piling_pairs.specs.StepLaws.{step_newest, step_cut, step_put}
-use Rattle.piling_pairs.proofs.push.Goals as goal
+use Rattle.piling_pairs.proofs.Places.push.Goals as goal
 
 pub uncover-requires : goal.uncover-requires
 uncover-requires c =
@@ -16,7 +16,7 @@ pub returns-then-cancel : goal.returns-then-cancel
 returns-then-cancel c = λ k t s.
     let told = c.cancel.ensures k (bytes_of t) s.ready.facing in
     let (q, e, n) = told.newest c.if-cancel.true t refl in
-    rw (c.uncover.ensures.place, c.uncover.ensures.newest) (step_cut s q e n (told.gone c.if-cancel.true).1)
+    rw (c.uncover.ensures.place, c.uncover.ensures.newest, c.uncover.ensures.below) (step_cut s q e n (told.gone c.if-cancel.true).1)
 
 pub put-requires : goal.put-requires
 put-requires c =
