@@ -1,10 +1,9 @@
--- `table` is safe and ends: the measure is `16384 - start`; of the cases, at most `start`, no more agree than there
--- are.
-use Prim.Native.Nat.{◌-◌, ◌≤◌}
+-- `table` ends with the text: of the lines read, each of a byte or more, no more agree than there are.
+use Rattle.std.proofs.Common.{◌+◌, ◌≤◌, length}
 use Rattle.cases.proofs.table.Given as goal
 
-abbrev pub invariant-loop-start : goal.invariant-loop-start
-invariant-loop-start l = (l.agree ≤ l.cases) × (l.cases ≤ l.start) × (l.start ≤ 16384)
+abbrev pub invariant-loop-rest : goal.invariant-loop-rest
+invariant-loop-rest l = (l.agree ≤ l.cases) × (l.cases + length l.rest ≤ 16384)
 
-abbrev pub decreases-loop-start : goal.decreases-loop-start
-decreases-loop-start l = 16384 - l.start
+abbrev pub decreases-loop-rest : goal.decreases-loop-rest
+decreases-loop-rest l = length l.rest
