@@ -1,10 +1,9 @@
--- `rows` is safe and ends: the measure is `length table - start`; there are at most `start` rows before it.
-use Prim.Native.Nat.{◌-◌, ◌≤◌}
-use lib.ListN.{length}
+-- `rows` ends with the table, of whose rows each has a byte or more.
+use Rattle.std.proofs.Common.{◌+◌, ◌≤◌, length}
 use Rattle.cases_texts.proofs.rows.Given as goal
 
-abbrev pub invariant-loop-start : goal.invariant-loop-start
-invariant-loop-start l = l.count ≤ l.start
+abbrev pub invariant-loop-rest : goal.invariant-loop-rest
+invariant-loop-rest l = l.count + length l.rest ≤ 8192
 
-abbrev pub decreases-loop-start : goal.decreases-loop-start
-decreases-loop-start l = length l.table - l.start
+abbrev pub decreases-loop-rest : goal.decreases-loop-rest
+decreases-loop-rest l = length l.rest
