@@ -7,7 +7,7 @@ ghost use Rattle.std.specs.Prelude.{◌+◌, ◌-◌, ◌≤◌, ◌<◌, ◌≡
 ghost use Rattle.array_counts.specs.Blank.{blank_heights, Ones};
 ghost use Rattle.array_counts.specs.Heights.{Both, Changed, ChangedBy, without, at_least};
 
-// A zero in each place: the heights of empty stacks.
+// A zero in each place: the heights of empty stacks. A function, so that proofs above see its name and not 24 zeros.
 #[tactic(auto, unfolding(crate::specs::Blank::blank_heights))]
 pub fn blank_heights() -> [u16; 24]
     ensures { result ≡ blank_heights }
@@ -15,7 +15,7 @@ pub fn blank_heights() -> [u16; 24]
     [0; 24]
 }
 
-// A one in each place.
+// A one in each place. Two functions, since each is told by a definition of its own.
 pub fn ones() -> [u16; 24]
     ensures { Ones result }
 {
