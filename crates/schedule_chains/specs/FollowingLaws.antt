@@ -1,7 +1,6 @@
 -- Laws of the scan that follows the chains from one letter of a word.
-use Rattle.std.specs.Prelude.{ℕ, suc, ◌+◌, ◌-◌, ◌<◌, ◌≤◌, ◌≡◌, refl, Bool, not, ◌↔◌, length, get_or, take, drop}
-use Rattle.std.proofs.Common.{arith, add-one, sym, ◌∙◌, subst, true≢false, lt-ltb, le-ltb, get_or-take}
-use Rattle.std.proofs.lemmas.List.{get_or-drop}
+use Rattle.std.specs.Prelude.{ℕ, suc, ◌+◌, ◌-◌, ◌<◌, ◌≤◌, ◌≡◌, refl, Bool, not, ◌↔◌, length, get_or}
+use Rattle.std.proofs.Common.{arith, add-one, sym, ◌∙◌, subst, true≢false, lt-ltb, le-ltb}
 use Rattle.std.proofs.Math.Path.{ap}
 use Rattle.std.proofs.Math.Bool.{true, false}
 use mathlib.Core.List.{List, [], ◌∷◌}
@@ -34,11 +33,6 @@ module _ {c word : List ℕ} {conflicts : List (List ℕ)} (g : Followable c wor
   where
     pub letter_at : Lettered (get_or word i 0)
     letter_at = all_at Lettered word i 0 g.letters l
-
--- the letter behind the next k of a slice
-pub letter_between : (word : List ℕ) (i j k : ℕ) → k < j - i
-    → get_or (take (j - i) (drop i word)) k 0 ≡ get_or word (i + k) 0
-letter_between word i j k h = get_or-take (j - i) (drop i word) k 0 h ∙ get_or-drop i word k 0
 
 -- the first letter is put in the set
 pub following_start : {c word : List ℕ} {conflicts : List (List ℕ)} → Followable c word conflicts → (i j : ℕ) → i < j

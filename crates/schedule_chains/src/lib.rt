@@ -33,8 +33,8 @@ pub fn leads(word: &[u8], conflicts: &[[u16; 24]; 24], i: usize, j: usize) -> bo
     }
     let mut reached = none();
     add((word[i] % 128) as usize - 1, conflicts, &mut reached);
-    for letter in &word[i + 1..j] {
-        follow(*letter, conflicts, &mut reached);
+    for m in i + 1..j {
+        follow(word[m], conflicts, &mut reached);
     }
     !independent((word[j] % 128) as usize - 1, conflicts, &reached)
 }
