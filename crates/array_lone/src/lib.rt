@@ -19,8 +19,8 @@ fn lone(conflicts: &[[u16; 24]; 24]) -> bool
     requires { (c : List ℕ) × Conflicts c conflicts.now }
     ensures { result ≡ true → Lone conflicts.now }
 {
-    for line in conflicts {
-        if total(line) != 1 {
+    for k in 0..24 {
+        if total(&conflicts[k]) != 1 {
             return false;
         }
     }

@@ -6,7 +6,7 @@ use Rattle.array_lone.proofs.lone.Goals as goal
 pub total-requires : goal.total-requires
 total-requires c = bits_fit (line_bits c.requires.1 (omega arith))
 
-pub loop-line-preserved : goal.loop-line-preserved
-loop-line-preserved c =
+pub loop-k-preserved : goal.loop-k-preserved
+loop-k-preserved c =
     let s = line_sole c.requires.1 (omega arith) (sym c.total.ensures ∙ c.if-total-ne1.false) in
-    below_more _ _ c.loop-line.invariant s
+    below_more _ _ c.loop-k.invariant s

@@ -1,7 +1,7 @@
--- What the loop of `array_lone::lone` keeps: the lines so far are sole.
+-- What the loop of `array_lone::lone` keeps: the lines before k are sole.
 use Rattle.std.proofs.Common.{ℕ, ◌<◌, [], get_or}
 use Rattle.array_words.specs.Words.{Sole}
 use Rattle.array_lone.proofs.lone.Given as goal
 
-abbrev pub invariant-loop-line : goal.invariant-loop-line
-invariant-loop-line l = (i : ℕ) → i < l.line-index → Sole i (get_or l.conflicts i [])
+abbrev pub invariant-loop-k : goal.invariant-loop-k
+invariant-loop-k l = (i : ℕ) → i < l.k → Sole i (get_or l.conflicts i [])
