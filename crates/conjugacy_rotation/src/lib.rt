@@ -3,9 +3,9 @@
 #![tactic(auto)]
 
 ghost use Rattle.std.specs.Prelude.{ℕ, ◌≡◌, ◌≤◌, ◌↔◌, List, length, IsTrue};
+ghost use Rattle.spec.specs.Answers.{told_option};
 ghost use Rattle.spec.specs.Letters.{alphabet};
 ghost use Rattle.theory_conjugacy.specs.Rotation.{rotate, rotation};
-ghost use Rattle.conjugacy_rotation.specs.Told.{told_start};
 
 use array_row::same_bytes;
 
@@ -40,7 +40,7 @@ fn agree_from(ring: &[u8], i: usize, other: &[u8]) -> bool
 
 // The first starting place at which the two rings agree. Rings of different lengths agree nowhere, empty ones at 0.
 pub fn rotation(ring: &[u8], other: &[u8]) -> Option<usize>
-    ensures { (c : List ℕ) → told_start result ≡ rotation (alphabet c) ring.now other.now }
+    ensures { (c : List ℕ) → told_option result ≡ rotation (alphabet c) ring.now other.now }
 {
     if other.len() != ring.len() {
         return None;
