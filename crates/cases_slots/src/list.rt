@@ -36,15 +36,19 @@ fn place(random: &mut Random, end: usize, second: bool) -> usize
     if second { p.max(random.draw(end)) } else { p }
 }
 
-// Writes a list, and gives its size.
-pub fn fill_list(random: &mut Random, list: &mut [u16; 8], letters: usize, wrong: bool) -> usize
+// A list of places at random, at the start of this room.
+pub fn random_list<'a>(
+    random: &mut Random,
+    room: &'a mut [u16; 8],
+    letters: usize,
+    wrong: bool,
+) -> &'a [u16]
     requires { letters < 256 }
-    ensures { result ≤ 8 }
 {
     let end = end(random, letters, wrong);
     let n = size(random, wrong);
     for i in 0..n {
-        list[i] = place(random, end, i % 2 == 1) as u16;
+        room[i] = place(random, end, i % 2 == 1) as u16;
     }
-    n
+    &room[..n]
 }

@@ -14,7 +14,7 @@ use cases_random::{
 use cases_report::every;
 use cases_solver::normal_form;
 use compare::{list_agrees, pairs_agree, slots_agree};
-use list::fill_list;
+use list::random_list;
 
 // The most bytes of a plan whose normal form has at most 6 letters, if the bytes behind them are left out.
 fn short(c: &[u8], plan: &[u8]) -> usize
@@ -30,10 +30,9 @@ fn short(c: &[u8], plan: &[u8]) -> usize
 
 // Do library and solver agree on a list of places at random, which may be wrong.
 fn some_list_agrees(random: &mut Random, c: &[u8], plan: &[u8], wrong: bool) -> bool {
-    let mut list = [0; 8];
+    let mut room = [0; 8];
     let letters = normal_form(c, plan).length;
-    let n = fill_list(random, &mut list, letters, wrong);
-    list_agrees(c, plan, &list[..n])
+    list_agrees(c, plan, random_list(random, &mut room, letters, wrong))
 }
 
 // A number of commands, of the first n: one to 6.
