@@ -13,8 +13,8 @@ pub fn starts(conflicts: &[[u16; 24]; 24]) -> [u16; 24]
 {
     let mut counts = array_counts::blank_heights();
     let mut free = array_counts::ones();
-    for line in conflicts {
-        array_counts::clear(&mut free, line);
+    for j in 0..24 {
+        array_counts::clear(&mut free, &conflicts[j]);
         array_counts::lift(&mut counts, &free);
     }
     counts

@@ -1,6 +1,6 @@
--- What the loop of `array_starts::starts` keeps: the lines so far have been counted.
+-- What the loop of `array_starts::starts` keeps: the lines below j have been counted.
 use Rattle.array_starts.specs.StartsLaws.{Counting}
 use Rattle.array_starts.proofs.starts.Given as goal
 
-abbrev pub invariant-loop-line : goal.invariant-loop-line
-invariant-loop-line l = Counting l.conflicts l.counts l.free l.line-index
+abbrev pub invariant-loop-j : goal.invariant-loop-j
+invariant-loop-j l = Counting l.conflicts l.counts l.free l.j
