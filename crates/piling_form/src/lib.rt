@@ -20,7 +20,8 @@ pub struct Formed {
     pub pairs: usize,
 }
 
-// Takes pairs off, as `peel` does, where the core is wanted; else nothing changes.
+// Takes pairs off, as `peel` does, where the core is wanted; else nothing changes. A bool tells it, and no closure: the
+// definition `form` of specs/Coring, by which the promises of both are one, is over it.
 fn peel_if(
     piling: &mut Piling,
     at: &mut [u16; 24],

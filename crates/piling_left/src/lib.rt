@@ -17,7 +17,7 @@ fn blank(word: &mut [u8], places: &[u16])
     }
 }
 
-// A zero for each command that a byte can tell.
+// A zero for each command that a byte can tell. Not array_row::row: its contract tells the length alone.
 fn no_letters() -> [u16; 128]
     ensures { Tallied [] result }
 {
@@ -57,7 +57,8 @@ fn trim_front(word: &mut [u8], counts: [u16; 128], all: usize)
     }
 }
 
-// The same with the last letters.
+// The same with the last letters. Not one function over an iterator of bytes: forward and back the proofs split the word
+// at another end, so it would be no plainer.
 fn trim_back(word: &mut [u8], counts: [u16; 128], all: usize)
     requires { total counts ≡ all }
     ensures { word.new ≡ reverse (trimmed counts (reverse word.old)) }
@@ -77,7 +78,7 @@ fn trim_back(word: &mut [u8], counts: [u16; 128], all: usize)
     }
 }
 
-// Moves the letters of a word up to its start, and tells how many they are.
+// Moves the letters of a word up to its start, and tells how many they are. By index, since it writes the word it reads.
 fn close_up(word: &mut [u8]) -> usize
     ensures { Closed word.old word.new result }
 {

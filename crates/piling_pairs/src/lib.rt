@@ -12,8 +12,8 @@ ghost use Rattle.piling_pairs.specs.Pairing.{Noted, PairsOf};
 
 use piling_stacks::Piling;
 
-// Where the letters left of a plan stood in it: the place of the newest of each command, and below, for the place of each
-// letter left, that of the next letter of its command below it.
+// Where the letters left of a plan stood in it: the place of the newest of each command, and below, for the place of
+// each letter left, that of the next letter of its command below it.
 #[derive(Drop)]
 pub struct Places {
     pub newest: [u16; 24],

@@ -19,7 +19,7 @@ pub struct Piling {
     pub heights: [u16; 24],
 }
 
-// The undo of a byte of some command: input_plan::undo less its tests for 0 and 128, in the loop over a plan's letters.
+// The undo of a byte of some command. Not input_plan::undo: its tests for 0 and 128 cost time in the loop over letters.
 pub fn opposite(letter: u8) -> u8
     requires { 0 < command_of letter }
     ensures { result ≡ undone letter }

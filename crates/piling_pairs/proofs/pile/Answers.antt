@@ -1,11 +1,8 @@
 -- `piling_pairs::pile` meets its contract. The command of a byte that is no filler is one of the 24, and a step that
 -- tells a place leaves room for one pair more; twice the pairs are no more than the letters read.
 use native.Mathlib.Omega.{arith}
-use mathlib.Core.Path.{◌∙◌, sym, ap}
-use mathlib.Core.List.{[]}
-use lib.ListN.{length, take}
+use lib.ListN.{take}
 use Rattle.spec.specs.Pairs.{left_of}
-use Rattle.piling_stacks.specs.BlankLaws.{piled_blank}
 use Rattle.piling_pairs.specs.PairingLaws.{piling_start, given_range, piling_stepping, piling_filler}
 use Rattle.piling_pairs.specs.PairingLaws.{piling_letters, piling_room, piling_letter, piling_counted}
 use Rattle.piling_pairs.proofs.pile.Goals as goal
