@@ -12,7 +12,9 @@ pub overflow_add-l : goal.overflow_add-l
 overflow_add-l c = omega (arith, written_fits c.loop-first.invariant c.in-Some.is c.requires, c.well_formed)
 
 pub lift-requires : goal.lift-requires
-lift-requires c = written_line c.loop-first.invariant c.in-Some.is c.requires _ (first_low c.loop-first.invariant c.in-Some.is)
+lift-requires c =
+    let l = first_low c.loop-first.invariant c.in-Some.is in
+    written_line c.loop-first.invariant c.in-Some.is c.requires _ (omega (arith, l))
 
 pub next-first-requires : goal.next-first-requires
 next-first-requires c = (
