@@ -1,7 +1,6 @@
 -- From each line that does not hold to what the next check may rely on.
-use Rattle.std.specs.Prelude.{ℕ, ◌≤◌, ◌<◌, ◌≡◌, Bool, true, false, ◌||◌, List, length, ltb, eqb, Result, Ok}
-use Rattle.std.proofs.Common.{arith, sym, ◌∙◌, ap, lt-ltb, le-ltb, eq-eqb, ne_eqb, ltb-false}
-use Rattle.std.proofs.Math.Bool.{or-true}
+use Rattle.std.specs.Prelude.{ℕ, ◌≤◌, ◌<◌, ◌≡◌, Bool, ◌||◌, List, length, ltb, eqb, Result, Ok}
+use Rattle.std.proofs.Common.{arith, sym, ◌∙◌, ap, lt-ltb, le-ltb, ltb-false}
 use Rattle.std.proofs.Math.Option.{Option, none, some}
 use Rattle.std.proofs.lemmas.Bool.{eqb-false}
 use Rattle.theory_words.specs.BoolLaws.{or_neither}
@@ -65,16 +64,6 @@ high_next c j = ltb (records c) (next c j)
 
 abbrev pub wrong_command : List ℕ → ℕ → Bool
 wrong_command c j = eqb (command c j) 0 || ltb (commands c) (command c j)
-
-module _ (c : List ℕ) where
-  pub command_zero : (j : ℕ) → command c j ≡ 0 → wrong_command c j ≡ true
-  command_zero j e = rw (eq-eqb (command c j) 0 e)
-
-  pub command_high : (j : ℕ) → ltb (commands c) (command c j) ≡ true → wrong_command c j ≡ true
-  command_high j e = rw e (or-true (eqb (command c j) 0))
-
-  pub command_fine : (j : ℕ) → (command c j ≡ 0 → ⊥) → ltb (commands c) (command c j) ≡ false → wrong_command c j ≡ false
-  command_fine j z e = rw (ne_eqb (command c j) 0 z) e
 
 module _ (c : List ℕ) where
   pub framed_from : frame_line c ≡ none → Framed c

@@ -59,6 +59,8 @@ pub fn first_wrong<F: Fn(usize) -> bool>(n: usize, wrong: F) -> Option<usize>
     None
 }
 
+// Framed stays a clause: as a type it would be one more struct of the same bytes, which only proofs tell apart.
+
 // Line 3 for the heads.
 fn heads(c: &Catalogue) -> Result<usize, Refusal>
     requires { Framed c.now.bytes.now }

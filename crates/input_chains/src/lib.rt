@@ -33,6 +33,7 @@ fn meet(a: usize, b: usize, rows: &mut [[u16; 24]; 24], own: &mut [[u16; 24]; 24
 
 // Follows the chain of command a, of at most R records, and marks each command that it meets; which they are is also
 // noted in row a of own. Tells whether it ends.
+// Rows and own stay apart: one is the caller's, one the reader's, and a struct that holds both loans is no plainer.
 pub fn walk(c: &Catalogue, a: usize, rows: &mut [[u16; 24]; 24], own: &mut [[u16; 24]; 24]) -> bool
     requires sound { Sound c.now.bytes.now }
     requires shape { Shape rows.old }

@@ -28,6 +28,7 @@ fn passing(b: u8, commands: usize) -> bool
 }
 
 // Whether a byte does not pass, with fewer than 128 commands.
+// Not `passing`, which is for any number of commands: here all is bytes, and neither contract serves both callers.
 fn fails(b: u8, commands: u8) -> bool
     requires { commands < 128 }
     ensures { result ≡ not (passes commands b) }
