@@ -94,7 +94,8 @@ pub fn blank() -> [[u16; 24]; 24]
     [[0; 24]; 24]
 }
 
-// No command known for any head below N.
+// No command known for any head below N, which 0 stands for.
+// No Option: commands count from 1 in the manual, so that 0 is free, and an Option would be twice the bytes to clear.
 fn none_known<const N: usize>() -> [u8; N]
     ensures none { NoneKnown result }
     ensures long { length result ≡ N }

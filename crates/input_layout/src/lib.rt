@@ -10,6 +10,7 @@ ghost use Rattle.spec.specs.Catalogue.{commands, records, head_place, command_pl
 ghost use Rattle.input_layout.specs.Laid.{Laid, Framed};
 
 // N and R, and how many bytes an index takes: one in the first edition, two in the second.
+// The width is no enum: it is a number of bytes, which the bounds of the index add, and the manual's two forms test it.
 #[derive(Clone, Copy)]
 pub struct Layout {
     pub commands: usize,
