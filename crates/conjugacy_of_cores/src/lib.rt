@@ -45,7 +45,10 @@ fn join_at(
         row.new result }
 {
     if !parts.is_apex(k) {
-        return Outcome { end: Some(at), rounds: 0 };
+        return Outcome {
+            end: Some(at),
+            rounds: 0,
+        };
     }
     let from1 = one.starts[k + 1] as usize;
     let to1 = one.starts[k + 2] as usize;

@@ -2,7 +2,7 @@
 -- written is the lead-in.
 use Prim.Native.Nat.{ℕ, suc, ◌+◌, ◌*◌, ◌-◌, ◌≤◌, max}
 use Rattle.std.proofs.Common.{arith, mul-add, add-mul, sym, ◌∙◌, subst, length-take, length-take-le, take-take, take_at}
-use Rattle.std.specs.Prelude.{◌≡◌, false, Option, None, Some, MatchOption}
+use Rattle.std.specs.Prelude.{◌≡◌, false, Option, None, Some}
 use Rattle.std.proofs.Math.Path.{ap}
 use mathlib.Core.List.{List, [], ◌∷◌, ◌++◌, append_assoc, append-nil}
 use Rattle.std.proofs.Math.ListN.{length, take, length-append}

@@ -21,13 +21,7 @@ pub struct Outcome {
 // Where a ring is a rotation of another, the end of the way between them behind the first bytes of the row: the ring up
 // to the place at which they agree, and the letters cycled, undone. Those stand in the row up to `at`; the ring's
 // letters are put behind them, undone, and then all of it is undone where it stands.
-fn join_rings(
-    ring: &[u8],
-    other: &[u8],
-    row: &mut [u8],
-    from: usize,
-    at: usize,
-) -> Option<usize>
+fn join_rings(ring: &[u8], other: &[u8], row: &mut [u8], from: usize, at: usize) -> Option<usize>
     requires { RingsRoom ring.now row.old from at }
     ensures { (c cycled : List ℕ) → take at row.old ≡ take from row.old ++ cycled
         → RingsOutcome c ring.now other.now cycled row.old from row.new
@@ -59,7 +53,13 @@ pub fn join_part(
     let mut other: [u8; 1024] = array_row::row(0);
     let one = ring_of(part1, apex, conflicts, &mut ring, row, at);
     let two = ring_of(part2, apex, conflicts, &mut other, row, one.cycled);
-    let end = join_rings(&ring[..one.letters], &other[..two.letters], row, one.cycled, two.cycled);
+    let end = join_rings(
+        &ring[..one.letters],
+        &other[..two.letters],
+        row,
+        one.cycled,
+        two.cycled,
+    );
     Outcome {
         end,
         rounds: one.rounds.max(two.rounds),

@@ -13,7 +13,12 @@ use piling_core_letters::core_of;
 // As `lead_in_form`, with a row of so many bytes of its own. Each of its instances has a frame of its own, so that a
 // call takes the stack of one row.
 #[inline(never)]
-fn join_in<const N: usize>(one: &Core<'_>, two: &Core<'_>, conflicts: &[[u16; 24]; 24], area: &mut [u8]) -> Outcome
+fn join_in<const N: usize>(
+    one: &Core<'_>,
+    two: &Core<'_>,
+    conflicts: &[[u16; 24]; 24],
+    area: &mut [u8],
+) -> Outcome
     requires { (N ≤ 50176) × ((c : List ℕ) × (v : List ℕ) × (w : List ℕ)
         × FormRoom c conflicts.now v w one.now.letters.now one.now.lead.now two.now.letters.now two.now.lead.now N
         area.old) }
@@ -41,7 +46,8 @@ fn join_by_cores(
         → Cores c conflicts.now v w one.now.letters.now one.now.lead.now two.now.letters.now two.now.lead.now
         → PlansRoom c v w n area.old → PlansOutcome c v w area.old result area.new }
 {
-    let need = n * (2 * one.lead.len() + one.letters.len() + (2 * two.lead.len() + two.letters.len()));
+    let need = n
+        * (2 * one.lead.len() + one.letters.len() + (2 * two.lead.len() + two.letters.len()));
     if need <= 2048 {
         return join_in::<2048>(one, two, conflicts, area);
     }

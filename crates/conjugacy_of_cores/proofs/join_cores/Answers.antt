@@ -1,9 +1,7 @@
 -- Cores that are the same are joined, and those in which other commands occur are apart; their parts are counted with
 -- the flags and labels of each. For others the flags and labels are those of both. Assumes nothing.
-use Prim.Native.Nat.{◌<◌}
 use mathlib.Core.Path.{sym, ◌∙◌}
 use mathlib.Core.Bool.{true≢false}
-use native.Mathlib.Omega.{arith}
 use Rattle.spec.specs.Letters.{alphabet}
 use Rattle.theory_conjugacy.specs.WordLaws.{~_of_≡}
 use Rattle.conjugacy_settled_parts.specs.PartOfLaws.{cyclic_lettered}
