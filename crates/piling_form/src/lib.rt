@@ -22,12 +22,7 @@ pub struct Formed {
 
 // Takes pairs off, as `peel` does, where the core is wanted; else nothing changes. A bool tells it, and no closure: the
 // definition `form` of specs/Coring, by which the promises of both are one, is over it.
-fn peel_if(
-    piling: &mut Piling,
-    at: &mut [u16; 24],
-    conflicts: &[[u16; 24]; 24],
-    cored: bool,
-)
+fn peel_if(piling: &mut Piling, at: &mut [u16; 24], conflicts: &[[u16; 24]; 24], cored: bool)
     requires { (c : List ℕ) × (x : List ℕ)
         × Whole c conflicts.now piling.old.rows piling.old.heights at.old x }
     ensures { (c x : List ℕ)

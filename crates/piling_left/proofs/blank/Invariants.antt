@@ -1,5 +1,4 @@
 -- `piling_left::blank` meets its contract. The loop's invariant: the places from i on are left. Assumes nothing.
-use lib.ListN.{length}
 use Rattle.piling_left.specs.BlankLaws.{Blanking}
 use Rattle.piling_left.proofs.blank.Given as goal
 

@@ -1,5 +1,4 @@
 -- `piling_left::close_up` meets its contract. The loop's invariant: the letters of the first i bytes stand in front.
-use lib.ListN.{length}
 use Rattle.piling_left.specs.CloseLaws.{Closing}
 use Rattle.piling_left.proofs.close_up.Given as goal
 

@@ -1,5 +1,4 @@
 -- `piling_left::trim_front` meets its contract. The loop's invariant: the first i bytes are trimmed.
-use lib.ListN.{length}
 use Rattle.piling_left.specs.Left.{trimmed}
 use Rattle.piling_left.specs.TrimmedLaws.{Fronts}
 use Rattle.piling_left.proofs.trim_front.Given as goal
