@@ -60,7 +60,8 @@ fn each_chain(
 {
     for a in 1..c.layout.commands + 1 {
         if !chain_of(c, a, rows, own, firsts) {
-            return refused(Reason::EndlessChain, 0, c.head_place(a));
+            let place = c.head_place(a);
+            return refused(Reason::EndlessChain, 0, place);
         }
     }
     Ok(c.layout.commands)

@@ -16,7 +16,7 @@ returns-then-not-chain_of c =
     let hit = search_hit (endless cat) c.loop-a.invariant.ending (omega (arith, h.commands)) stuck in
     let line = ap (line_at 5 0 (head_place cat)) hit in
     record {
-      decides = decides_at cat 5 0 c.refused.result line c.refused.ensures c.head_place.ensures;
+      decides = decides_at cat 5 0 c.refused.result line c.refused.ensures c.head_place-place.ensures;
       met = λ e. absurd (some-none (sym line ∙ e));
     }
 
