@@ -15,14 +15,7 @@ use conjugacy_commands::{occurring, same_commands};
 use conjugacy_labels::labels;
 use conjugacy_of_parts::{Outcome, join_part};
 use conjugacy_parts::group;
-use conjugacy_rounds::{Parts, group_rounds, most_rounds};
-
-// A core in which the letters of each part stand together, and where those of each label start.
-#[derive(Clone, Copy)]
-struct Group<'a> {
-    word: &'a [u8],
-    starts: &'a [u16; 26],
-}
+use conjugacy_rounds::{Group, Parts, group_rounds, most_rounds};
 
 // Whether the part of command k + 1 is joined, and its lead-in behind the first bytes of the row. A command that does
 // not occur or is not the apex of its part has nothing to join.
@@ -82,8 +75,8 @@ fn rest_rounds(
         → Joinable c conflicts.now x y parts.now.flags parts.now.labels row.old at
         → result ≡ both_rounds c (apexes_from parts.now.flags parts.now.labels (24 - (k + 1)) (k + 1)) x y }
 {
-    let most = group_rounds(one.word, one.starts, parts, k + 1, 0, conflicts, row, at);
-    group_rounds(two.word, two.starts, parts, k + 1, most, conflicts, row, at)
+    let most = group_rounds(one, parts, k + 1, 0, conflicts, row, at);
+    group_rounds(two, parts, k + 1, most, conflicts, row, at)
 }
 
 // Whether all parts are joined, and their lead-ins, one after the other. Where one is apart, the parts behind it are
@@ -144,13 +137,6 @@ fn join_groups(
     let mut word2: [u8; 1024] = array_row::row(0);
     let starts1 = group(core1, &parts.labels, &mut word1);
     let starts2 = group(core2, &parts.labels, &mut word2);
-    if same_bytes(&word1[..core1.len()], &word2[..core2.len()]) {
-        let count = group_rounds(&word1, &starts1, parts, 0, 0, conflicts, row, at);
-        return Outcome {
-            end: Some(at),
-            rounds: count,
-        };
-    }
     let one = Group {
         word: &word1,
         starts: &starts1,
@@ -159,6 +145,13 @@ fn join_groups(
         word: &word2,
         starts: &starts2,
     };
+    if same_bytes(&word1[..core1.len()], &word2[..core2.len()]) {
+        let count = group_rounds(&one, parts, 0, 0, conflicts, row, at);
+        return Outcome {
+            end: Some(at),
+            rounds: count,
+        };
+    }
     join_parts(&one, &two, parts, conflicts, row, at)
 }
 

@@ -107,10 +107,16 @@ fn apex_rounds(
     part_rounds(part, labels[k], conflicts, row, at)
 }
 
+// A core in which the letters of each part stand together, and where those of each label start.
+#[derive(Clone, Copy)]
+pub struct Group<'a> {
+    pub word: &'a [u8],
+    pub starts: &'a [u16; 26],
+}
+
 // The same in a grouped core, if command k + 1 is an apex.
 fn rounds_at(
-    word: &[u8],
-    starts: &[u16; 26],
+    group: &Group<'_>,
     parts: &Parts,
     k: usize,
     conflicts: &[[u16; 24]; 24],
@@ -118,9 +124,9 @@ fn rounds_at(
     at: usize,
 ) -> usize
     requires { (k < 24) × ((c : List ℕ) × (x : List ℕ)
-        × GroupOf c conflicts.now x word.now starts.now parts.now.flags parts.now.labels row.old at) }
+        × GroupOf c conflicts.now x group.now.word.now group.now.starts.now parts.now.flags parts.now.labels row.old at) }
     ensures { (c x : List ℕ)
-        → GroupOf c conflicts.now x word.now starts.now parts.now.flags
+        → GroupOf c conflicts.now x group.now.word.now group.now.starts.now parts.now.flags
         parts.now.labels row.old at
         → Counts c x (apex_at parts.now.flags parts.now.labels k) 0 row.old
         row.new at result }
@@ -128,16 +134,15 @@ fn rounds_at(
     if !parts.is_apex(k) {
         return 0;
     }
-    let from = starts[k + 1] as usize;
-    let to = starts[k + 2] as usize;
-    apex_rounds(&word[from..to], &parts.labels, k, conflicts, row, at)
+    let from = group.starts[k + 1] as usize;
+    let to = group.starts[k + 2] as usize;
+    apex_rounds(&group.word[from..to], &parts.labels, k, conflicts, row, at)
 }
 
 // The largest number that a part of a grouped core needs whose apex is command k + 1 or a later one, or `most` if that
 // is larger.
 pub fn group_rounds(
-    word: &[u8],
-    starts: &[u16; 26],
+    group: &Group<'_>,
     parts: &Parts,
     k: usize,
     most: usize,
@@ -146,16 +151,16 @@ pub fn group_rounds(
     at: usize,
 ) -> usize
     requires { (k ≤ 24) × ((c : List ℕ) × (x : List ℕ)
-        × GroupOf c conflicts.now x word.now starts.now parts.now.flags parts.now.labels row.old at) }
+        × GroupOf c conflicts.now x group.now.word.now group.now.starts.now parts.now.flags parts.now.labels row.old at) }
     ensures { (c x : List ℕ)
-        → GroupOf c conflicts.now x word.now starts.now parts.now.flags
+        → GroupOf c conflicts.now x group.now.word.now group.now.starts.now parts.now.flags
         parts.now.labels row.old at
         → Counts c x (apexes_from parts.now.flags parts.now.labels (24 - k) k) most
         row.old row.new at result }
 {
     let mut found = most;
     for j in k..24 {
-        let count = rounds_at(word, starts, parts, j, conflicts, row, at);
+        let count = rounds_at(group, parts, j, conflicts, row, at);
         found = found.max(count);
     }
     found
@@ -180,7 +185,11 @@ fn several_rounds(
 {
     let mut word: [u8; 1024] = array_row::row(0);
     let starts = group(core, &parts.labels, &mut word);
-    group_rounds(&word, &starts, parts, 0, most, conflicts, row, at)
+    let whole = Group {
+        word: &word,
+        starts: &starts,
+    };
+    group_rounds(&whole, parts, 0, most, conflicts, row, at)
 }
 
 // The largest number that a part of the core needs, or `most` if that is larger. A core with one part is that part.

@@ -5,4 +5,4 @@ use Rattle.conjugacy_rounds.proofs.group_rounds.Given as goal
 
 abbrev pub invariant-loop-j : goal.invariant-loop-j
 invariant-loop-j l =
-    Counting l.conflicts l.word l.starts l.parts.flags l.parts.labels l.k l.most l.initial.row l.at l.row l.found l.j
+    Counting l.conflicts l.group.word.now l.group.starts.now l.parts.flags l.parts.labels l.k l.most l.initial.row l.at l.row l.found l.j
