@@ -11,13 +11,6 @@ ghost use Rattle.conjugacy_rounds.specs.Counting.{ApexOf, CoreOf, GroupOf, Count
 use conjugacy_parts::group;
 use conjugacy_settled_parts::settle_part;
 
-// The larger of two numbers.
-pub fn larger(a: usize, b: usize) -> usize
-    ensures { result ≡ max a b }
-{
-    if a < b { b } else { a }
-}
-
 // Which commands occur in a core, as flags, and the label of each: the largest command of its part.
 #[derive(Clone, Copy)]
 pub struct Parts {
