@@ -63,7 +63,11 @@ fn command(text: &[u8], at: usize, left: usize, commands: usize) -> Measure
     ensures { Commanded commands text.now at left result }
 {
     let n = notation_parts::number_at(text, at);
-    let above = if known(n.value as u8, commands) { None } else { Some(left) };
+    let above = if known(n.value as u8, commands) {
+        None
+    } else {
+        Some(left)
+    };
     Measure {
         size: 1,
         above,

@@ -2,7 +2,7 @@
 use Rattle.std.specs.Prelude.{ℕ, ◌≤◌, ◌<◌, ◌≡◌, List, [], ◌∷◌, ◌++◌, length, refl, Result, Ok, Err}
 use Rattle.std.proofs.Common.{sym, ◌∙◌, ap, arith, lt-ltb, le-ltb}
 use Rattle.std.proofs.Math.Option.{Option, none, some}
-use Rattle.spec.specs.Table.{Line, line, Answer, refused, given, first_line, or_else, line_of}
+use Rattle.spec.specs.Table.{Line, line, Answer, refused, given, first_line, or_else}
 use Rattle.spec.specs.declared.Refusal.{Refusal}
 use Rattle.spec.specs.Answers.{told_written}
 use Rattle.spec.specs.Calls.{plan_limit, area_line}

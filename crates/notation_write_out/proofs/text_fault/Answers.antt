@@ -1,7 +1,7 @@
 -- `notation_write_out::text_fault` meets its contract: what the checks of a text find.
 use Rattle.std.specs.Prelude.{ℕ, ◌≡◌, Result, Ok, Err}
 use Rattle.std.specs.Result.{result_err}
-use Rattle.std.proofs.Common.{sym, refl}
+use Rattle.std.proofs.Common.{sym}
 use Rattle.std.proofs.Math.Option.{Option}
 use Rattle.spec.specs.Table.{Line, or_else}
 use Rattle.spec.specs.declared.Refusal.{Refusal}
