@@ -18,6 +18,7 @@ pub fn repeat(area: &mut [u8], from: usize, to: usize, count: usize) -> usize
 {
     let width = to - from;
     let end = to + (count - 1) * width;
+    // Not copy_within: each copy is read from the one before, so that source and target overlap.
     for i in to..end {
         area[i] = area[i - width];
     }

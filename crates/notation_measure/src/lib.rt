@@ -112,6 +112,7 @@ pub fn items(text: &[u8], at: usize, commands: usize, nesting: usize) -> Measure
         above: None,
         end: at,
     };
+    // No count: the place moves by as much as an item takes.
     while notation_parts::goes_on(text, all.end) {
         all = joined(all, item(text, all.end, commands, nesting));
     }

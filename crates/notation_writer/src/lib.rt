@@ -60,6 +60,7 @@ pub fn items(text: &[u8], at: usize, nesting: usize, area: &mut [u8], to: usize)
         → Wrote text.now at nesting area.old to m area.new result }
 {
     let mut reached = Reached { at, to };
+    // No count: the place moves by as much as an item takes.
     while notation_parts::goes_on(text, reached.at) {
         reached = item(text, reached.at, nesting, area, reached.to);
     }
