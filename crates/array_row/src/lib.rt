@@ -69,35 +69,3 @@ pub fn row<T: Copy, const N: usize>(fill: T) -> [T; N]
 {
     [fill; N]
 }
-
-// The same for the lengths of old, until each caller calls `row`.
-
-pub fn short_row() -> [u8; 2048]
-    ensures { 2048 ≡ length result }
-{
-    [0; 2048]
-}
-
-pub fn sheet() -> [u8; 1024]
-    ensures { 1024 ≡ length result }
-{
-    [0; 1024]
-}
-
-pub fn middle_row() -> [u8; 8192]
-    ensures { 8192 ≡ length result }
-{
-    [0; 8192]
-}
-
-pub fn wide_row() -> [u8; 24576]
-    ensures { 24576 ≡ length result }
-{
-    [0; 24576]
-}
-
-pub fn blank_row() -> [u8; 50176]
-    ensures { 50176 ≡ length result }
-{
-    [0; 50176]
-}
