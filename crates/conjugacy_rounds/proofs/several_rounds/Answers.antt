@@ -1,4 +1,5 @@
--- `conjugacy_rounds::several_rounds` meets its contract: the core can be grouped in a sheet. Assumes nothing.
+-- `conjugacy_rounds::several_rounds` meets its contract: the core can be grouped in a row of 1,024
+-- bytes. Assumes nothing.
 use native.Mathlib.Omega.{arith}
 use Rattle.conjugacy_rounds.specs.CountingLaws.{core_groupable}
 use Rattle.conjugacy_rounds.proofs.several_rounds.Goals as goal
