@@ -1,7 +1,7 @@
 -- `notation_write_out::text_fault` meets its contract: what the checks of a text find.
 use Rattle.std.specs.Prelude.{ℕ, ◌≡◌, Result, Ok, Err}
 use Rattle.std.specs.Result.{result_err}
-use Rattle.std.proofs.Common.{sym}
+use Rattle.std.proofs.Common.{sym, ap, ◌∙◌}
 use Rattle.std.proofs.Math.Option.{Option}
 use Rattle.spec.specs.Table.{Line, or_else}
 use Rattle.spec.specs.declared.Refusal.{Refusal}
@@ -16,4 +16,4 @@ fault_told o n (Ok m) t = sym (passed_line o n t)
 fault_told o n (Err f) t = sym (refused_line o n t)
 
 pub returns : goal.returns
-returns c = rw c.err.ensures.value (fault_told _ _ c.checked.result c.checked.ensures)
+returns c = ap told_fault c.err.ensures.value ∙ fault_told _ _ c.checked.result c.checked.ensures
