@@ -18,7 +18,8 @@ fn index_of(letter: u8) -> usize
     (letter % 128) as usize - 1
 }
 
-// Flag k tells whether command k + 1 occurs in the word.
+// Flag k tells whether command k + 1 occurs in the word. Flags are numbers, so that a line of conflicts, which a piling
+// adds to its heights, is of the same type.
 pub fn occurring(word: &[u8]) -> [u16; 24]
     requires { All Lettered word.now }
     ensures { (c : List ℕ) → Flags (Part.commands (alphabet c) word.now) result }
@@ -31,7 +32,7 @@ pub fn occurring(word: &[u8]) -> [u16; 24]
     flags
 }
 
-// Whether the same commands are flagged.
+// Whether the same commands are flagged. A function, so that callers learn it of the commands and not of the flags.
 pub fn same_commands(flags: &[u16; 24], others: &[u16; 24]) -> bool
     ensures { (ks js : List ℕ) → Flags ks flags.now → Flags js others.now
         → (result ≡ true) ↔ (ks ≡ js) }

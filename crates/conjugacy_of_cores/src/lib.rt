@@ -1,5 +1,5 @@
 // Whether two cores are joined, and the lead-in from one to the other: the lead-ins of their parts, one after the
-// other, behind what stands in a row.
+// other, behind what stands in a row. No struct of row and place, since each part is lent the row at another place.
 
 #![tactic(auto)]
 

@@ -11,7 +11,8 @@ use array_row::{append_undone, undo_between};
 use conjugacy_ring::ring_of;
 use conjugacy_rotation::rotation;
 
-// The end of a lead-in, where two loops are joined; and the most rounds that a part took, joined or not.
+// The end of a lead-in, where two loops are joined; and the most rounds that a part took, joined or not. The end is a
+// place in a row, and only for whole plans the length that `spec::Loops` has.
 #[derive(Clone, Copy)]
 pub struct Outcome {
     pub end: Option<usize>,

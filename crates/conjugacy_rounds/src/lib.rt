@@ -1,5 +1,5 @@
 // How many rounds the parts of a core need, where no ring is asked for. A row is worked in behind a place, and what
-// stands before that place is kept.
+// stands before that place is kept: no struct of row and place, since each call lends the row anew at another place.
 
 #![tactic(auto)]
 

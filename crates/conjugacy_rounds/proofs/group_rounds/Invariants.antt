@@ -1,5 +1,5 @@
 -- `conjugacy_rounds::group_rounds` meets its contract. The loop's invariant: the larger of what is found and what the
--- parts that are left need is what is asked. The measure is what is left of the 24 commands. Assumes nothing.
+-- parts that are left need is what is asked. Assumes nothing.
 use Rattle.conjugacy_rounds.specs.CountingLaws.{Counting}
 use Rattle.conjugacy_rounds.proofs.group_rounds.Given as goal
 
