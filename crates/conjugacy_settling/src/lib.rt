@@ -25,7 +25,7 @@ pub struct Settled {
 }
 
 // One letter goes to its half. If it goes to the upper one its command is raised. A letter of a raised command needs no
-// set test: a command conflicts with itself. No struct of low, high and ends: it would hold the word that `split` reads.
+// set test: a command conflicts with itself. No struct of low, high and ends: it would hold the word that split reads.
 fn place(
     letter: u8,
     apex: usize,
