@@ -1,6 +1,6 @@
 -- The loop that reads the stacks of a long word off: l letters are written, and the arrays hold the stacks of the word
 -- that is left.
-use Rattle.std.specs.Prelude.{ℕ, ◌+◌, ◌-◌, ◌<◌, ◌≡◌, List, [], Option, None, Some, length, get_or, set}
+use Rattle.std.specs.Prelude.{ℕ, ◌+◌, ◌-◌, ◌<◌, ◌≡◌, refl, List, [], Option, None, Some, length, get_or, set}
 use Rattle.std.proofs.Common.{arith, ◌∙◌, ap, le_refl, get_or-set_other}
 use Rattle.input_chains.specs.Conflicts.{Conflicts}
 use Rattle.array_counts.specs.First.{NoneBelow, FirstWith, FirstFound}
@@ -32,6 +32,8 @@ pub record Underway {n : ℕ} (conflicts : List (List ℕ)) (word : List ℕ) (s
     (s : LinkedStacks n) (area : List ℕ) (l : ℕ) (next : Option ℕ) : Type 0 where
   pub some : (c : List ℕ) × (x : List ℕ) × Readable c conflicts word s₀ x before
   pub first : FirstFound (LetterOnTop s) next
+  pub under : s.under ≡ s₀.under
+  pub link : s.link ≡ s₀.link
   pub reading : (c x : List ℕ) → Readable c conflicts word s₀ x before
       → (y : List ℕ) × Reading (Stacks c word s 0) c x before area l y
 
@@ -41,6 +43,8 @@ pub underway_start : {n : ℕ} {conflicts : List (List ℕ)} {word : List ℕ} {
 underway_start some f = record {
   some = some;
   first = f;
+  under = refl;
+  link = refl;
   reading = λ c x r. (x, reading_start r.stacks r.fits);
 }
 
@@ -71,6 +75,8 @@ module _ {n : ℕ} {conflicts : List (List ℕ)} {word : List ℕ} {s₀ : Linke
     underway_again {s'} u f = record {
       some = w.some;
       first = f;
+      under = u.unders ∙ w.under;
+      link = u.links ∙ w.link;
       reading = λ c x r.
           let (y, g) = w.reading c x r in
           reading_again g (stacks_shown g.left) first_at underway_low (Stacks c word s' 0)

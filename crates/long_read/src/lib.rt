@@ -3,7 +3,7 @@
 
 #![tactic(auto)]
 
-ghost use Rattle.std.specs.Prelude.{ℕ, List};
+ghost use Rattle.std.specs.Prelude.{ℕ, ◌≡◌, List};
 ghost use Rattle.array_counts.specs.First.{NoneBelow, FirstFound};
 ghost use Rattle.array_row.specs.Area.{ReadOff};
 ghost use Rattle.long_stacks.specs.Linked.{LetterOnTop};
@@ -34,9 +34,11 @@ pub fn read_off<const N: usize>(
     area: &mut [u8],
 ) -> usize
     requires { (c : List ℕ) × (x : List ℕ) × Readable c conflicts.now word.now stacks.old x area.old }
-    ensures { (c x : List ℕ)
+    ensures read { (c x : List ℕ)
         → Readable c conflicts.now word.now stacks.old x area.old
         → ReadOff c x area.old area.new result }
+    ensures under { stacks.new.under ≡ stacks.old.under }
+    ensures link { stacks.new.link ≡ stacks.old.link }
 {
     let starts = array_starts::starts(conflicts);
     let mut l = 0;

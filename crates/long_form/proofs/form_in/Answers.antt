@@ -20,5 +20,5 @@ read_off-requires g c =
 pub returns : goal.returns
 returns g c =
     let f = c.requires.formable.1 in
-    λ k d. form_written k _ (c.read_off.ensures k _
+    λ k d. form_written k _ (c.read_off.ensures.read k _
     (form_readable f.fits (c.reduce.ensures k (reducing_start d f.short c.empty-stacks.ensures))))

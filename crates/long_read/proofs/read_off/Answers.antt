@@ -34,5 +34,5 @@ pub loop-next-preserved : goal.loop-next-preserved
 loop-next-preserved g c =
     underway_again c.loop-next.invariant c.in-Some.is c.cut.ensures c.ready-next-in-Some.ensures
 
-pub returns : goal.returns
-returns g c = underway_end c.loop-next.invariant c.in_default.is
+pub returns-clause-read : goal.returns-clause-read
+returns-clause-read g c = underway_end c.loop-next.invariant c.in_default.is
