@@ -11,7 +11,7 @@ use long_reduction::reduce;
 use long_stacks::LinkedStacks;
 
 // The normal form of a word of at most N letters. Each N is a function of its own, with one call, so that the links of
-// all take one place on the stack: as locals of one function each had its own, 45,056 bytes more.
+// all take one place on the stack: as locals of one function each would have its own, 45,056 bytes more.
 fn form_in<const N: usize>(word: &[u8], conflicts: &[[u16; 24]; 24], area: &mut [u8]) -> usize
     requires few { N ≤ 50176 }
     requires formable { (c : List ℕ) × Formable N c conflicts.now word.now area.old }

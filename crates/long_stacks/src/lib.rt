@@ -11,6 +11,7 @@ use array_counts::{lift, lower};
 // The stacks of a word of at most N letters. A stack is given by its height, by the place of its uppermost letter plus
 // 1 and by that letter's mark, the height when it was put on; two rows beside the word keep what was under each letter,
 // its mark (`under`) and its place plus 1 (`link`).
+// `tops` and `link` hold a place plus 1, and 0 for none: an `Option` of a `u16` would be twice the bytes to clear.
 #[derive(Drop)]
 pub struct LinkedStacks<const N: usize> {
     pub under: [u16; N],
