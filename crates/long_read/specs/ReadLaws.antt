@@ -1,6 +1,6 @@
 -- The loop that reads the stacks of a long word off: l letters are written, and the arrays hold the stacks of the word
 -- that is left.
-use Rattle.std.specs.Prelude.{ℕ, ◌+◌, ◌-◌, ◌<◌, ◌≡◌, refl, List, [], Option, None, Some, length, get_or, set}
+use Rattle.std.specs.Prelude.{ℕ, ◌+◌, ◌-◌, ◌<◌, ◌≡◌, refl, List, [], None, Some, length, get_or, set}
 use Rattle.std.proofs.Common.{arith, ◌∙◌, ap, le_refl, get_or-set_other}
 use Rattle.input_chains.specs.Conflicts.{Conflicts}
 use Rattle.array_counts.specs.First.{NoneBelow, FirstWith, FirstFound}
@@ -29,62 +29,47 @@ stacks_shown h = record {
 
 -- the loop's state, for every catalogue and word that the arrays stood for at first, of which there is one
 pub record Underway {n : ℕ} (conflicts : List (List ℕ)) (word : List ℕ) (s₀ : LinkedStacks n) (before : List ℕ)
-    (s : LinkedStacks n) (area : List ℕ) (l : ℕ) (next : Option ℕ) : Type 0 where
+    (s : LinkedStacks n) (area : List ℕ) (l start : ℕ) : Type 0 where
   pub some : (c : List ℕ) × (x : List ℕ) × Readable c conflicts word s₀ x before
-  pub first : FirstFound (LetterOnTop s) next
+  pub passed : NoneBelow (LetterOnTop s) start
   pub under : s.under ≡ s₀.under
   pub link : s.link ≡ s₀.link
   pub reading : (c x : List ℕ) → Readable c conflicts word s₀ x before
       → (y : List ℕ) × Reading (Stacks c word s 0) c x before area l y
 
 pub underway_start : {n : ℕ} {conflicts : List (List ℕ)} {word : List ℕ} {s : LinkedStacks n} {area : List ℕ}
-    {next : Option ℕ} → (c : List ℕ) × (x : List ℕ) × Readable c conflicts word s x area
-    → FirstFound (LetterOnTop s) next → Underway conflicts word s area s area 0 next
-underway_start some f = record {
+    → (c : List ℕ) × (x : List ℕ) × Readable c conflicts word s x area → Underway conflicts word s area s area 0 0
+underway_start some = record {
   some = some;
-  first = f;
+  passed = record { within = omega arith; none = λ i h p. omega (arith, h) };
   under = refl;
   link = refl;
   reading = λ c x r. (x, reading_start r.stacks r.fits);
 }
 
 module _ {n : ℕ} {conflicts : List (List ℕ)} {word : List ℕ} {s₀ : LinkedStacks n} {before : List ℕ}
-    {s : LinkedStacks n} {area : List ℕ} {l : ℕ} {next : Option ℕ}
-    (w : Underway conflicts word s₀ before s area l next) where
-  pub underway_end : next ≡ None → (c x : List ℕ) → Readable c conflicts word s₀ x before → ReadOff c x before area l
-  underway_end e c x r =
+    {s : LinkedStacks n} {area : List ℕ} {l start : ℕ} (w : Underway conflicts word s₀ before s area l start) where
+  pub underway_end : FirstFound (LetterOnTop s) None → (c x : List ℕ) → Readable c conflicts word s₀ x before
+      → ReadOff c x before area l
+  underway_end f c x r =
       let (y, g) = w.reading c x r in
-      reading_end g (stacks_shown g.left) (rw e at w.first) (le_refl 24)
+      reading_end g (stacks_shown g.left) f (le_refl 24)
 
   pub underway_long : length area ≡ length before
   underway_long = let (c, x, r) = w.some in (w.reading c x r).1.long
 
-  module _ {k : ℕ} (is : next ≡ Some k) where
+  module _ {k : ℕ} (f : FirstFound (LetterOnTop s) (Some k)) where
     pub underway_low : k < 24
-    underway_low = (rw is at w.first).0
+    underway_low = f.0
 
     first_at : FirstWith (LetterOnTop s) k
-    first_at = (rw is at w.first).1
+    first_at = f.1
 
     lined : {c : List ℕ} → Conflicts c conflicts → Lined c (get_or conflicts k []) k
     lined t = let h = underway_low in record { within = h; wide = t.wide k h; tells = λ j i. t.tells k j h i }
 
-    pub underway_again : {s' : LinkedStacks n} {after : Option ℕ} → Cut s (get_or conflicts k []) k s'
-        → FirstFound (LetterOnTop s') after
-        → Underway conflicts word s₀ before s' (set area l (top_at word s.tops k)) (l + 1) after
-    underway_again {s'} u f = record {
-      some = w.some;
-      first = f;
-      under = u.unders ∙ w.under;
-      link = u.links ∙ w.link;
-      reading = λ c x r.
-          let (y, g) = w.reading c x r in
-          reading_again g (stacks_shown g.left) first_at underway_low (Stacks c word s' 0)
-          (λ v m p. stacks_cut g.left (lined r.table) p m u);
-    }
-
     -- no stack below the start of row k has a letter on top when the letter of row k is off
-    pub underway_passed : {starts : List ℕ} {s' : LinkedStacks n} → Starts conflicts starts
+    underway_passed : {starts : List ℕ} {s' : LinkedStacks n} → Starts conflicts starts
         → Cut s (get_or conflicts k []) k s' → NoneBelow (LetterOnTop s') (get_or starts k 0)
     underway_passed {s' = s'} t u =
         let h : k < 24 = underway_low in
@@ -93,6 +78,20 @@ module _ {n : ℕ} {conflicts : List (List ℕ)} {word : List ℕ} {s₀ : Linke
         let e : get_or s'.marks i 0 ≡ get_or s.marks i 0
         = ap (λ m. get_or m i 0) u.written.mark ∙ get_or-set_other s.marks k i _ 0 (omega arith) in
         omega (arith, e, q, u.lowered.each i (omega arith))
+
+    pub underway_again : {starts : List ℕ} {s' : LinkedStacks n} → Starts conflicts starts
+        → Cut s (get_or conflicts k []) k s'
+        → Underway conflicts word s₀ before s' (set area l (top_at word s.tops k)) (l + 1) (get_or starts k 0)
+    underway_again {s' = s'} t u = record {
+      some = w.some;
+      passed = underway_passed t u;
+      under = u.unders ∙ w.under;
+      link = u.links ∙ w.link;
+      reading = λ c x r.
+          let (y, g) = w.reading c x r in
+          reading_again g (stacks_shown g.left) first_at underway_low (Stacks c word s' 0)
+          (λ v m p. stacks_cut g.left (lined r.table) p m u);
+    }
 
     pub underway_inside : get_or s.tops k 0 - 1 < length word
     underway_inside =

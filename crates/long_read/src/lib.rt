@@ -42,12 +42,12 @@ pub fn read_off<const N: usize>(
 {
     let starts = array_starts::starts(conflicts);
     let mut l = 0;
-    let mut next = ready(stacks, 0);
-    while let Some(k) = next {
+    let mut start = 0;
+    while let Some(k) = ready(stacks, start) {
         area[l] = word[stacks.tops[k] as usize - 1];
         l += 1;
         stacks.cut(&conflicts[k], k);
-        next = ready(stacks, starts[k] as usize);
+        start = starts[k] as usize;
     }
     l
 }

@@ -4,8 +4,8 @@ use Rattle.std.proofs.Common.{◌-◌, length}
 use Rattle.long_read.specs.ReadLaws.{Underway}
 use Rattle.long_read.proofs.read_off.Given as goal
 
-abbrev pub invariant-loop-next : goal.invariant-loop-next
-invariant-loop-next g l = Underway l.conflicts l.word l.initial.stacks l.initial.area l.stacks l.area l.l l.next
+abbrev pub invariant-loop-k : goal.invariant-loop-k
+invariant-loop-k g l = Underway l.conflicts l.word l.initial.stacks l.initial.area l.stacks l.area l.l l.start
 
-abbrev pub decreases-loop-next : goal.decreases-loop-next
-decreases-loop-next g l = length l.initial.area - l.l
+abbrev pub decreases-loop-k : goal.decreases-loop-k
+decreases-loop-k g l = length l.initial.area - l.l
