@@ -19,7 +19,7 @@ pub struct Measure {
     pub end: usize,
 }
 
-// A length cut off past 1,024.
+// A length cut off past 1,024: a function, since the laws speak of it by name (`capped`, specs/Measured.antt).
 fn capped(n: usize) -> usize
     ensures { result ≡ cappedTo n }
 {

@@ -12,6 +12,7 @@ use notation_tokens::Token;
 
 // What has begun: nothing, a minus, a number so far, a group that is closed, its count so far. Wrong: no ending could
 // mend the text any more.
+// Wrong is no None: specs/Modes.antt has it as a mode, which `after_token` leads to and never from.
 #[derive(Clone, Copy)]
 pub enum Mode {
     Free,
@@ -39,7 +40,7 @@ fn may_begin(mode: Mode) -> bool
     matches!(mode, Mode::Free | Mode::Signed)
 }
 
-// A number from 1 to 24 begins.
+// A number from 1 to 24 begins. It and a count have rules of their own: 0 is a count, but no digit goes on behind it.
 fn number(d: usize) -> Mode
     ensures { result ≡ after_digit Mode.Free d }
 {

@@ -1,5 +1,6 @@
 // What stands at a place of a text: whether a sequence goes on there, a blank, a bracket, a minus, a number.
 // The crate notation_laws defines each over the tokens left (specs/Here.antt).
+// A text stays whole and a place moves: from `&text[at..]` an answer would still have to say how much of it was read.
 
 #![tactic(auto)]
 

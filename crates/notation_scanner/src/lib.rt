@@ -17,6 +17,7 @@ use notation_tokens::{Token, token_of};
 use spec::{Reason, Refusal};
 
 // Where a text is wrong, and its first bracket that nests too deep. Of a text that is wrong, only that counts.
+// No Result: the scan goes on past a bracket too deep, as line 13 comes first; edit nesting_before_text swaps the two.
 #[derive(Clone, Copy)]
 struct Faults {
     wrong: Option<usize>,
