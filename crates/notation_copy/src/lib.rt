@@ -17,15 +17,14 @@ pub fn repeat(area: &mut [u8], from: usize, to: usize, count: usize) -> usize
         area.new result }
 {
     let width = to - from;
-    let end = to + (count - 1) * width;
-    // Not copy_within: each copy is read from the one before, so that source and target overlap.
-    for i in to..end {
-        area[i] = area[i - width];
+    for n in 1..count {
+        area.copy_within(from..to, from + n * width);
     }
-    end
+    from + count * width
 }
 
 // Undoes the bytes between two places if a minus stands before them.
+// `undone` is a bool, here and in `signed`: the text tells it, so no caller knows beforehand which of the two it wants.
 pub fn undo_if(undone: bool, area: &mut [u8], from: usize, to: usize)
     requires { (from ≤ to) × (to ≤ length area.old) }
     ensures { Appended area.old from (signed_plan undone (drop from (take to area.old)))
