@@ -8,8 +8,6 @@
 mod ask;
 mod solve;
 
-ghost use Rattle.std.specs.Prelude.{◌≤◌, length};
-
 use cases_report::{Told, answers, count, every};
 use cases_table::{Call, Question, in_second, plan_of_four, plans_of_two, read};
 
@@ -41,22 +39,16 @@ fn put_twice(q: &Question) -> bool {
     put(q) && compare(&in_second(q), q.catalogue.bytes())
 }
 
-// Every line of the table. This stays a while: a turn takes a line of the text.
-fn table(text: &[u8])
-    requires { length text.now ≤ 16384 }
-{
-    let mut agree: usize = 0;
-    let mut cases: usize = 0;
-    let mut rest = text;
-    while !rest.is_empty() {
-        let n = rest.iter().position(|b| *b == b'\n').unwrap_or(rest.len());
-        if put_twice(&read(&rest[..n])) {
-            agree += 1;
-        }
-        cases += 1;
-        rest = rest.get(n + 1..).unwrap_or_default();
-    }
-    count(agree, cases, b" cases agree\n");
+// Puts a line of the table, whose newline the last may lack; do they agree.
+fn put_line(line: &[u8]) -> bool {
+    put_twice(&read(line.strip_suffix(b"\n").unwrap_or(line)))
+}
+
+// Every line of the table.
+fn table(text: &[u8]) {
+    let lines = || text.split_inclusive(|b| *b == b'\n');
+    let agree = lines().filter(|line| put_line(line)).count();
+    count(agree, lines().count(), b" cases agree\n");
 }
 
 // Do they agree on plan number p of four bytes, in normal form, pairs and core.

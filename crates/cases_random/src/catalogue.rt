@@ -11,7 +11,8 @@ use cases_solver::at;
 // Room for any catalogue that passes, and for some that are too large.
 pub type Catalogue = Buffer<3400>;
 
-// A catalogue that grows: of the first or the second edition, with so many commands and records.
+// A catalogue that grows: of the first or the second edition, with so many commands and records. Of which edition it
+// is, is a property of the data (the solver has it in the first byte), and decides how wide heads and indices are.
 #[derive(Drop)]
 struct Draft {
     second: bool,
@@ -109,7 +110,8 @@ impl Draft {
     }
 }
 
-// How often a catalogue grows: at most 255 times, and in the second edition now and then up to 1,024 times.
+// How often a catalogue grows: at most 255 times, and in the second edition now and then up to 1,024 times, since only
+// that has room for as many records.
 fn turns(random: &mut Random, second: bool) -> usize
     ensures { result ≤ 1024 }
 {

@@ -72,7 +72,7 @@ fn slots(slots: &Slots) {
     in_use(slots.in_use);
 }
 
-fn refusal(refusal: Refusal) {
+pub fn refusal(refusal: Refusal) {
     text(b" refused");
     signed(refusal.number);
     signed(refusal.plan);
@@ -80,6 +80,7 @@ fn refusal(refusal: Refusal) {
     number(refusal.place);
 }
 
+// What is told of an answer that holds or not, in the caller's words for either; no step depends on it.
 fn verdict(holds: bool, yes: &[u8], no: &[u8]) {
     text(if holds { yes } else { no });
 }

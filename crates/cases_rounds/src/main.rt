@@ -18,6 +18,7 @@ const PLAN: usize = 1100;
 // Room for every lead-in: 24 × 2,048 bytes.
 const LEAD_IN: usize = 49152;
 
+// Not cases_report's: this program takes the library alone, with no solver below it.
 fn text(bytes: &[u8]) {
     io::write_all(1, bytes);
 }

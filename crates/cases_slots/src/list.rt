@@ -1,4 +1,5 @@
-// Lists of places at random, for a normal form of so many letters.
+// Lists of places at random, for a normal form of so many letters. That a list may be wrong is a property of it, which
+// its end and its size look at, as `second` tells of a place where it stands in its pair: neither picks a step.
 
 ghost use Rattle.std.specs.Prelude.{◌<◌, ◌≤◌};
 

@@ -28,7 +28,7 @@ fn short(c: &[u8], plan: &[u8]) -> usize
     0
 }
 
-// Do library and solver agree on a list of places at random, which may be wrong.
+// Do library and solver agree on a list of places at random, which may be wrong (the module list says what that is).
 fn some_list_agrees(random: &mut Random, c: &[u8], plan: &[u8], wrong: bool) -> bool {
     let mut room = [0; 8];
     let letters = normal_form(c, plan).length;

@@ -24,7 +24,7 @@ fn shortened(c: &[u8], x: &Form) -> Option<Form>
     conjugates.find(|y| y.length < x.length)
 }
 
-// The core of a plan, in normal form. This stays a while: it ends where no word is shorter.
+// The core of a plan, in normal form. No for: it ends where no word is shorter.
 pub fn core(c: &[u8], plan: &[u8]) -> Form {
     let mut x = normal_form(c, plan);
     while let Some(y) = shortened(c, &x) {

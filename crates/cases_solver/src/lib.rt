@@ -1,5 +1,6 @@
 // A second opinion on the bench cases, which knows nothing of the library but the specification: words are rewritten
-// letter by letter, with no piling and no row of beads.
+// letter by letter, with no piling and no row of beads. The catalogue c and the plans go loose beside each other, as in
+// the calls of busplan: a struct of c and a plan fits few functions, as most have two plans, a word or a letter beside c.
 
 #![tactic(auto)]
 

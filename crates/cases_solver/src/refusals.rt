@@ -98,9 +98,9 @@ fn wrong_command(c: &[u8], k: usize) -> bool {
     part_at(c, k) == Some(Part::Command) && (at(c, k) == 0 || commands(c) < at(c, k) as usize)
 }
 
-// Line 5, where the goal is no head, and line 6, where it is the same head.
-fn wrong_chain(c: &[u8], k: usize, goal: usize) -> bool {
-    part_at(c, k) == Some(Part::Head) && walk(c, k, goal) != 0
+// Line 5, where there is no goal, and line 6, where it is the same head.
+fn wrong_chain(c: &[u8], k: usize, goal: Option<usize>) -> bool {
+    part_at(c, k) == Some(Part::Head) && walk(c, k, goal)
 }
 
 // Line 8.
@@ -108,16 +108,16 @@ fn wrong_byte(c: &[u8], b: u8) -> bool {
     b == 128 || commands(c) < (b % 128) as usize
 }
 
-// Does a line hold at place k of the catalogue (1 to 6 and 17) or of the plan (7 and 8). The lines have the numbers of
-// the manual's table, which an enum would only name once more.
+// Does a line hold at place k of the catalogue (1 to 6 and 17) or of the plan (7 and 8). A number picks the line, since
+// the manual's table has numbers: closures, or an enum, would name its lines once more, and `refuse` tells the number.
 fn holds(c: &[u8], plan: &[u8], line: u8, k: usize) -> bool {
     match line {
         1 => wrong_size(c),
         2 => 24 < commands(c),
         3 => wrong_index(c, k),
         4 => wrong_command(c, k),
-        5 => wrong_chain(c, k, 0),
-        6 => wrong_chain(c, k, k),
+        5 => wrong_chain(c, k, None),
+        6 => wrong_chain(c, k, Some(k)),
         7 => 1024 < plan.len(),
         17 => wrong_count(c, k),
         _ => wrong_byte(c, at(plan, k)),

@@ -6,8 +6,8 @@ ghost use Rattle.std.specs.Prelude.{◌≤◌, length};
 use crate::catalogue::tied;
 use crate::form::normal_form;
 
-// The most letters of a chain in a word whose last is tied to a: with the last letter of the word, where that is tied to
-// a, or without it.
+// The most letters of a chain in a word whose last is tied to a: with the last letter of the word, where that is tied
+// to a, or without it.
 fn longest(c: &[u8], word: &[u8], a: u8) -> usize
     ensures { result ≤ length word.now }
 {

@@ -131,7 +131,7 @@ fn begin(q: &mut Question, open: Open, rest: &[u8]) {
     }
 }
 
-// Reads a line. This stays a while: a character is read together with those behind it.
+// Reads a line. No for: a character is read together with those behind it.
 pub fn read(line: &[u8]) -> Question {
     let mut q = Question::under_k(Call::LeadIn);
     let mut open = Open::Name;

@@ -5,7 +5,7 @@ ghost use Rattle.std.specs.Prelude.{◌<◌};
 use crate::{Part, Question};
 use cases_solver::{at, check_catalogue};
 
-// A low byte, or the high byte 0 behind it.
+// A low byte, or the high byte 0 behind it; `low` tells where the byte stands, and picks no step.
 fn half(b: u8, low: bool) -> u8 {
     if low { b } else { 0 }
 }

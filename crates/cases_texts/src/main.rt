@@ -7,7 +7,7 @@
 mod report;
 mod row;
 
-ghost use Rattle.std.specs.Prelude.{◌<◌, ◌≤◌, IfSome, length};
+ghost use Rattle.std.specs.Prelude.{◌≤◌};
 
 use cases_report::KEPT_BYTE;
 use row::{AREA, Row};
@@ -15,8 +15,8 @@ use row::{AREA, Row};
 // The longest table.
 const TABLE: usize = 8192;
 
-// The number of bytes of the catalogue without conflicts that has this first byte; from 128 on, it is that of the second
-// edition.
+// The number of bytes of the catalogue without conflicts that has this first byte; from 128 on, it is that of the
+// second edition.
 fn size(first: u8) -> usize
     ensures { result ≤ 257 }
 {
@@ -39,30 +39,24 @@ fn put(row: &Row) {
     report::answers(written, fault, &area);
 }
 
-// Reads the row that begins a table and puts it, and gives the rows behind it, if there was one.
-fn put_row(table: &[u8]) -> Option<&[u8]>
-    ensures { IfSome result (λ rest. length rest.now < length table.now) }
-{
-    let end = table.iter().position(|b| *b == b'\n')?;
-    put(&row::read(&table[..end])?);
-    Some(&table[end + 1..])
+// Reads a row with its newline and puts it; was it one.
+fn put_row(line: &[u8]) -> bool {
+    match line.strip_suffix(b"\n").and_then(row::read) {
+        Some(row) => {
+            put(&row);
+            true
+        }
+        None => false,
+    }
 }
 
-// Every row, up to the first that is none. This stays a while: a turn takes a row of the table.
-fn rows(table: &[u8])
-    requires { length table.now ≤ TABLE }
-{
-    let mut count: usize = 0;
-    let mut rest = table;
-    while !rest.is_empty() {
-        count += 1;
-        let Some(behind) = put_row(rest) else {
-            report::no_row(count);
-            return;
-        };
-        rest = behind;
+// Every row, up to the first that is none.
+fn rows(table: &[u8]) {
+    let lines = || table.split_inclusive(|b| *b == b'\n');
+    match lines().position(|line| !put_row(line)) {
+        Some(n) => report::no_row(n.saturating_add(1)),
+        None => report::count(lines().count()),
     }
-    report::count(count);
 }
 
 fn main() {

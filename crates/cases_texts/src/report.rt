@@ -3,7 +3,7 @@
 ghost use Rattle.std.specs.Prelude.{◌≤◌};
 
 use crate::row::Row;
-use cases_report::{Bytes, KEPT_BYTE, byte, kept, number, signed, text};
+use cases_report::{Bytes, KEPT_BYTE, byte, kept, number, refusal, refused, signed, text};
 use cases_solver::at;
 use spec::{Reason, Refusal};
 
@@ -65,20 +65,11 @@ fn plan(area: &Bytes, n: usize) {
     }
 }
 
-fn refusal(refusal: Refusal) {
-    text(b" refused ");
-    number(refusal.reason as usize);
-    byte(b' ');
-    number(refusal.plan as usize);
-    byte(b' ');
-    number(refusal.place);
-}
-
 // What the call answered that writes a text out, with all bytes of the area.
 fn written(answer: Result<usize, Refusal>, area: &Bytes) {
     match answer {
         Ok(n) => plan(area, n),
-        Err(found) => refusal(found),
+        Err(found) => refusal(refused(found)),
     }
     if !kept(area, answer.unwrap_or(0), &KEPT_BYTE) {
         text(b", but a byte to be kept has changed");
@@ -92,7 +83,7 @@ pub fn answers(answer: Result<usize, Refusal>, fault: Option<Refusal>, area: &By
     if fault
         != answer
             .err()
-            .filter(|refused| refused.reason != Reason::AreaSize)
+            .filter(|found| found.reason != Reason::AreaSize)
     {
         text(b", but another fault is told");
     }
