@@ -6,7 +6,7 @@ use cases_report::{Answer, KEPT_NUMBER, Pairs, Slots, Told, kept, letters, refus
 use cases_solver::{Refusal, at, leads};
 use cases_table::{Call, Question};
 
-// The row of a command; that of command 1 for a number that is none, as the slip of a catalogue that is refused may be.
+// The row of a command; that of command 1 for a number that is none. No Option: no line of the table asks about one.
 fn row(command: u8) -> usize
     ensures { result < 24 }
 {

@@ -24,7 +24,7 @@ fn size(random: &mut Random) -> usize
     }
 }
 
-// A catalogue and a plan at random.
+// A catalogue and a plan at random. Not that of cases_slots: it draws another size, and commands of the first 6.
 fn drawn(random: &mut Random) -> (Catalogue, Plan)
     ensures { (result.0.size < 3300) × (result.1.size ≤ 1024) }
 {

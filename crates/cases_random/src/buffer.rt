@@ -1,4 +1,5 @@
-// Room for N bytes, of which so many are in use; the others are 0 until they are harmed.
+// Room for N bytes, of which so many are in use; the others are 0 until they are harmed. Not cases_table's
+// Part, of the same shape: here size and bytes are set at any place, there both are private and bytes are pushed.
 
 ghost use Rattle.std.specs.Prelude.{◌≡◌, ◌≤◌, length};
 

@@ -12,7 +12,8 @@ use cases_solver::at;
 pub type Catalogue = Buffer<3400>;
 
 // A catalogue that grows: of the first or the second edition, with so many commands and records. Of which edition it
-// is, is a property of the data (the solver has it in the first byte), and decides how wide heads and indices are.
+// is, is a property of the data, as in the first byte of a catalogue: it tells how wide heads and indices are. The
+// bytes are no Buffer yet, as the size is known only at the end.
 #[derive(Drop)]
 struct Draft {
     second: bool,

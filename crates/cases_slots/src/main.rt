@@ -43,7 +43,8 @@ fn few(random: &mut Random, n: usize) -> usize
     1 + random.draw(n.min(6))
 }
 
-// A catalogue and a plan of at most 16 bytes, with letters of few commands, at random.
+// A catalogue and a plan of at most 16 bytes, with letters of few commands, at random. Not that of cases_pairs, which
+// draws longer plans, of any commands.
 fn drawn(random: &mut Random) -> (Catalogue, Plan)
     ensures { (result.0.size < 3300) × (result.1.size ≤ 1024) }
 {

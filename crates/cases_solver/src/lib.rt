@@ -1,6 +1,8 @@
 // A second opinion on the bench cases, which knows nothing of the library but the specification: words are rewritten
-// letter by letter, with no piling and no row of beads. The catalogue c and the plans go loose beside each other, as in
-// the calls of busplan: a struct of c and a plan fits few functions, as most have two plans, a word or a letter beside c.
+// letter by letter, with no piling and no row of beads.
+
+// The catalogue c and the plans are loose parameters, as in the calls of busplan: beside c goes a plan, or two, or a
+// word, or a letter, so that a struct of c and a plan would fit few functions.
 
 #![tactic(auto)]
 

@@ -2,7 +2,8 @@
 
 ghost use Rattle.std.specs.Prelude.{◌≤◌};
 
-// At most 3,200 bytes; those behind the size are 0 unless the part has been made smaller.
+// At most 3,200 bytes; those behind the size are 0 unless the part has been made smaller. Not cases_random's Buffer, of
+// the same shape: here both fields are private, and a part that is full or sized too large stays within its room.
 #[derive(Clone, Copy)]
 pub struct Part {
     bytes: [u8; 3200],

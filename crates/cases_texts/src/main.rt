@@ -54,7 +54,7 @@ fn put_row(line: &[u8]) -> bool {
 fn rows(table: &[u8]) {
     let lines = || table.split_inclusive(|b| *b == b'\n');
     match lines().position(|line| !put_row(line)) {
-        Some(n) => report::no_row(n.saturating_add(1)),
+        Some(n) => report::no_row(n + 1),
         None => report::count(lines().count()),
     }
 }
