@@ -23,12 +23,7 @@ fn verdict(outcome: Outcome) -> Loops
 
 // Whether two loops are joined, and how many rounds the part of either core takes that takes most. Where they are
 // joined, a lead-in from v to w stands at the start of area, in normal form.
-pub fn loops(
-    catalogue: &[u8],
-    v: &[u8],
-    w: &[u8],
-    area: &mut [u8],
-) -> Result<Loops, Refusal>
+pub fn loops(catalogue: &[u8], v: &[u8], w: &[u8], area: &mut [u8]) -> Result<Loops, Refusal>
     ensures { Looped catalogue.now v.now w.now area.old (told_loops result)
         area.new }
 {
