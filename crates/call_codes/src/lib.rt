@@ -13,7 +13,7 @@ ghost use Rattle.spec.specs.Fault.{fault_numbers};
 
 use spec::{LeadIn, Loops, Reason, Refusal, Slots};
 
-// The number that the manual's table gives a reason.
+// The number that the manual's table gives a reason. In a function, whose clause ties the cast to number_of.
 pub fn number(reason: Reason) -> u8
     ensures { result ≡ number_of reason }
 {

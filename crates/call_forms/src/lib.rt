@@ -24,7 +24,7 @@ fn small_pairs() -> Refusal
 }
 
 // The normal form of plan, or of its core, written at the start of area, and the pairs that cancelled at the start of
-// pairs.
+// pairs. A bool tells it, for the reason at piling_form::peel_if.
 fn write_form(
     catalogue: &[u8],
     plan: &[u8],

@@ -11,7 +11,7 @@ ghost use Rattle.conjugacy_of_parts.specs.Outcomes.{told_outcome};
 use conjugacy_of_parts::Outcome;
 use spec::{Loops, Refusal};
 
-// The outcome as the answer of the loops call.
+// The outcome as the answer of the loops call: its end, a place in a row for the crates below, is a length here.
 fn verdict(outcome: Outcome) -> Loops
     ensures { told_loops (Ok result) ≡ told_outcome outcome }
 {
