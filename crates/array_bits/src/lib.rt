@@ -9,9 +9,7 @@ pub fn gather(numbers: &[u16; 24], low: u16, high: u16) -> u32
     ensures { Gathered low high numbers.now result }
 {
     let mut bits = 0;
-    let mut k = 24;
-    while 0 < k {
-        k -= 1;
+    for k in (0..24).rev() {
         let n = numbers[k];
         if low <= n && n <= high {
             bits |= 1 << k;

@@ -13,6 +13,11 @@ pub record Changed (f : ℕ → ℕ → ℕ) (line first last : List ℕ) : Type
   pub kept : length last ≡ length first
   pub each : (i : ℕ) → i < 24 → get_or last i 0 ≡ f (get_or first i 0) (get_or line i 0)
 
+-- at each index the last height is one that R allows for the first and the line's number
+pub record ChangedBy (R : ℕ → ℕ → ℕ → Type 0) (line first last : List ℕ) : Type 0 where
+  pub kept : length last ≡ length first
+  pub each : (i : ℕ) → i < 24 → R (get_or first i 0) (get_or line i 0) (get_or last i 0)
+
 -- f where n is 0, and 0 where n is 1
 unfoldable pub without : ℕ → ℕ → ℕ
 without f n = bit_and f (1 - n)

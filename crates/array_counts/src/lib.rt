@@ -3,11 +3,11 @@
 
 #![tactic(auto)]
 
-ghost use Rattle.std.specs.Prelude.{◌+◌, ◌-◌, ◌≤◌, ◌<◌, max, ◌≡◌};
+ghost use Rattle.std.specs.Prelude.{◌+◌, ◌-◌, ◌≤◌, ◌<◌, ◌≡◌};
 ghost use Rattle.array_counts.specs.Blank.{blank_heights, Ones};
-ghost use Rattle.array_counts.specs.Heights.{Both, Changed, without, at_least};
+ghost use Rattle.array_counts.specs.Heights.{Both, Changed, ChangedBy, without, at_least};
 
-// A zero in each place: the heights of empty stacks.
+// A zero in each place: the heights of empty stacks. A function, so that proofs above see its name and not 24 zeros.
 #[tactic(auto, unfolding(crate::specs::Blank::blank_heights))]
 pub fn blank_heights() -> [u16; 24]
     ensures { result ≡ blank_heights }
@@ -15,11 +15,21 @@ pub fn blank_heights() -> [u16; 24]
     [0; 24]
 }
 
-// A one in each place.
+// A one in each place. Two functions, since each is told by a definition of its own.
 pub fn ones() -> [u16; 24]
     ensures { Ones result }
 {
     [1; 24]
+}
+
+// Each number becomes what `op` makes of it and of the line's number there.
+fn change<F: Fn(u16, u16) -> u16>(numbers: &mut [u16; 24], line: &[u16; 24], op: F)
+    requires { Both (F.pre op) numbers.old line.now }
+    ensures { ChangedBy (F.post op) line.now numbers.old numbers.new }
+{
+    for i in 0..24 {
+        numbers[i] = op(numbers[i], line[i]);
+    }
 }
 
 // Each height plus the line's number there.
@@ -27,11 +37,7 @@ pub fn lift(heights: &mut [u16; 24], line: &[u16; 24])
     requires { Both (λ h n. h + n < 65536) heights.old line.now }
     ensures { Changed ◌+◌ line.now heights.old heights.new }
 {
-    let mut i = 0;
-    while i < 24 {
-        heights[i] += line[i];
-        i += 1;
-    }
+    change(heights, line, |h, n| h + n);
 }
 
 // Each height less the line's number there.
@@ -39,31 +45,15 @@ pub fn lower(heights: &mut [u16; 24], line: &[u16; 24])
     requires { Both (λ h n. n ≤ h) heights.old line.now }
     ensures { Changed ◌-◌ line.now heights.old heights.new }
 {
-    let mut j = 0;
-    while j < 24 {
-        heights[j] -= line[j];
-        j += 1;
-    }
+    change(heights, line, |h, n| h - n);
 }
 
 // Of zeros and ones, leaves a one only where the line has none.
-#[tactic(auto, unfolding(crate::specs::Heights::without))]
 pub fn clear(free: &mut [u16; 24], line: &[u16; 24])
     requires { Both (λ f n. n ≤ 1) free.old line.now }
     ensures { Changed without line.now free.old free.new }
 {
-    let mut k = 0;
-    while k < 24 {
-        free[k] &= 1 - line[k];
-        k += 1;
-    }
-}
-
-// The larger of two numbers.
-pub fn larger(a: u16, b: u16) -> u16
-    ensures { result ≡ max a b }
-{
-    if a < b { b } else { a }
+    change(free, line, |f, n| f & (1 - n));
 }
 
 // Each number is at least so much where the line has a one.
@@ -71,9 +61,5 @@ pub fn raise(numbers: &mut [u16; 24], line: &[u16; 24], least: u16)
     requires { Both (λ h n. n ≤ 1) numbers.old line.now }
     ensures { Changed (at_least least) line.now numbers.old numbers.new }
 {
-    let mut m = 0;
-    while m < 24 {
-        numbers[m] = larger(numbers[m], line[m] * least);
-        m += 1;
-    }
+    change(numbers, line, |h, n| h.max(n * least));
 }

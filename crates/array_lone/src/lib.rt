@@ -2,22 +2,16 @@
 
 #![tactic(auto)]
 
-ghost use Rattle.std.specs.Prelude.{ℕ, ◌<◌, ◌≤◌, ◌≡◌, true, List};
+ghost use Rattle.std.specs.Prelude.{ℕ, ◌<◌, ◌≤◌, ◌≡◌, true, List, sum};
 ghost use Rattle.input_chains.specs.Conflicts.{Conflicts};
-ghost use Rattle.array_lone.specs.Lone.{Bits, sum_to, Lone};
+ghost use Rattle.array_lone.specs.Lone.{Lone};
 
-// The sum of 24 numbers, each 0 or 1.
+// The sum of 24 numbers.
 fn total(line: &[u16; 24]) -> u16
-    requires { Bits line.now }
-    ensures { result ≡ sum_to line.now 24 }
+    requires { sum line.now < 65536 }
+    ensures { result ≡ sum line.now }
 {
-    let mut sum: u16 = 0;
-    let mut j = 0;
-    while j < 24 {
-        sum += line[j];
-        j += 1;
-    }
-    sum
+    line.iter().sum()
 }
 
 // Whether no command conflicts with another. Most catalogues have a conflict in their first lines.
@@ -25,12 +19,10 @@ fn lone(conflicts: &[[u16; 24]; 24]) -> bool
     requires { (c : List ℕ) × Conflicts c conflicts.now }
     ensures { result ≡ true → Lone conflicts.now }
 {
-    let mut k = 0;
-    while k < 24 {
+    for k in 0..24 {
         if total(&conflicts[k]) != 1 {
             return false;
         }
-        k += 1;
     }
     true
 }
@@ -40,8 +32,5 @@ pub fn lone_for(n: usize, conflicts: &[[u16; 24]; 24]) -> bool
     requires { (c : List ℕ) × Conflicts c conflicts.now }
     ensures { result ≡ true → Lone conflicts.now }
 {
-    if n < 64 {
-        return false;
-    }
-    lone(conflicts)
+    64 <= n && lone(conflicts)
 }

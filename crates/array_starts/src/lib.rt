@@ -13,11 +13,9 @@ pub fn starts(conflicts: &[[u16; 24]; 24]) -> [u16; 24]
 {
     let mut counts = array_counts::blank_heights();
     let mut free = array_counts::ones();
-    let mut j = 0;
-    while j < 24 {
+    for j in 0..24 {
         array_counts::clear(&mut free, &conflicts[j]);
         array_counts::lift(&mut counts, &free);
-        j += 1;
     }
     counts
 }

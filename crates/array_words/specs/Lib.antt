@@ -1,3 +1,2 @@
-pub mod ChangingLaws
 pub mod Words
 pub mod WordsLaws

@@ -21,6 +21,11 @@ pub record Combined (f : ℕ → ℕ → ℕ) (line first last : List ℕ) : Typ
   pub kept : length last ≡ length first
   pub each : (i : ℕ) → i < 6 → get_or last i 0 ≡ f (get_or first i 0) (word_at line (4 * i))
 
+-- each last word is one that R allows for the first and the line's word
+pub record CombinedBy (R : ℕ → ℕ → ℕ → Type 0) (line first last : List ℕ) : Type 0 where
+  pub kept : length last ≡ length first
+  pub each : (i : ℕ) → i < 6 → R (get_or first i 0) (word_at line (4 * i)) (get_or last i 0)
+
 -- the numbers from place i on are now those of the word, and those before it are as they were
 pub record Spread (first : List ℕ) (i word : ℕ) (last : List ℕ) : Type 0 where
   pub kept : length last ≡ length first

@@ -4,7 +4,6 @@ use Rattle.std.proofs.Common.{arith, below_more, sym, ◌∙◌, ap, length-set,
 use Rattle.std.proofs.Math.Decide.{ℕ_discrete}
 use Rattle.std.proofs.lemmas.List.{get_or-replicate}
 use Rattle.array_counts.specs.Heights.{Both, Changed}
-use Rattle.array_words.specs.ChangingLaws.{Changing}
 use Rattle.array_words.specs.Words.{four, word_at, Fits, Combined, Spread, WordsOf, Written}
 use Rattle.array_words.specs.Words.{Small, Held, Sole, Unless, Changeable}
 
@@ -117,12 +116,10 @@ module _ {words first now : List ℕ} {i : ℕ} (w : Writing words first now i) 
 
 -- the loop that combines
 
-abbrev pub ByWord : (ℕ → ℕ → ℕ) → List ℕ → List ℕ → List ℕ → ℕ → Type 0
-ByWord f line = Changing 6 f (λ j. word_at line (4 * j))
-
-pub combined_end : (f : ℕ → ℕ → ℕ) {line first now : List ℕ} {i : ℕ} → 6 ≤ i → ByWord f line first now i
-    → Combined f line first now
-combined_end f l c = record { kept = c.kept; each = λ i k. c.below i (omega arith) }
+pub record ByWord (R : ℕ → ℕ → ℕ → Type 0) (line first now : List ℕ) (i : ℕ) : Type 0 where
+  pub kept : length now ≡ length first
+  pub below : (j : ℕ) → j < i → R (get_or first j 0) (word_at line (4 * j)) (get_or now j 0)
+  pub above : (j : ℕ) → i ≤ j → get_or now j 0 ≡ get_or first j 0
 
 -- the numbers combined, where their words are
 

@@ -5,7 +5,7 @@
 
 ghost use Rattle.std.specs.Prelude.{◌+◌, ◌-◌, ◌<◌, ◌≤◌, ◌≡◌, [], length, get_or, replicate};
 ghost use Rattle.array_counts.specs.Heights.{Both, Changed};
-ghost use Rattle.array_words.specs.Words.{four, word_at, Fits, Combined, Spread, Written};
+ghost use Rattle.array_words.specs.Words.{four, word_at, Fits, Combined, CombinedBy, Spread, Written};
 ghost use Rattle.array_words.specs.Words.{Small, Held, Unless, Changeable};
 
 // Four numbers as one word, the first lowest.
@@ -37,16 +37,22 @@ fn spread(numbers: &mut [u16; 24], i: usize, word: u64)
     numbers[i + 3] = (fourth % 65536) as u16;
 }
 
+// Each word becomes what `op` makes of it and of the word of the line's numbers there.
+fn combine<F: Fn(u64, u64) -> u64>(words: &mut [u64; 6], line: &[u16; 24], op: F)
+    requires { Fits (F.pre op) words.old line.now }
+    ensures { CombinedBy (F.post op) line.now words.old words.new }
+{
+    for i in 0..6 {
+        words[i] = op(words[i], word_at(line, 4 * i));
+    }
+}
+
 // Each word plus that of the line's numbers.
 fn add(words: &mut [u64; 6], line: &[u16; 24])
     requires { Fits (λ w n. w + n < 18446744073709551616) words.old line.now }
     ensures { Combined ◌+◌ line.now words.old words.new }
 {
-    let mut i = 0;
-    while i < 6 {
-        words[i] += word_at(line, 4 * i);
-        i += 1;
-    }
+    combine(words, line, |w, n| w + n);
 }
 
 // Each word less that of the line's numbers.
@@ -54,11 +60,7 @@ fn subtract(words: &mut [u64; 6], line: &[u16; 24])
     requires { Fits (λ w n. n ≤ w) words.old line.now }
     ensures { Combined ◌-◌ line.now words.old words.new }
 {
-    let mut j = 0;
-    while j < 6 {
-        words[j] -= word_at(line, 4 * j);
-        j += 1;
-    }
+    combine(words, line, |w, n| w - n);
 }
 
 // Writes the numbers of six words.
@@ -66,10 +68,8 @@ fn write(numbers: &mut [u16; 24], words: &[u64; 6])
     requires { length numbers.old ≡ 24 }
     ensures { Written words.now numbers.old numbers.new }
 {
-    let mut i = 0;
-    while i < 6 {
+    for i in 0..6 {
         spread(numbers, 4 * i, words[i]);
-        i += 1;
     }
 }
 
@@ -91,7 +91,8 @@ pub fn words(numbers: &[u16; 24]) -> [u64; 6]
 }
 
 // As `array_counts::lift`, by line k of a table, with the numbers held as words too. Where line k is told to be sole,
-// with a one at k and nothing else, one number is changed, and the words are not kept.
+// with a one at k and nothing else, one number is changed, and the words are not kept. `sole` picks no step that a
+// caller knows beforehand: it tells what was found of the table, so it stays a bool.
 pub fn lift(
     numbers: &mut [u16; 24],
     held: &mut [u64; 6],
@@ -114,7 +115,8 @@ pub fn lift(
     write(numbers, held);
 }
 
-// As `array_counts::lower`, in the same way.
+// As `array_counts::lower`, in the same way. One function of both would take the operation twice, on a number and on a
+// word, and be no plainer.
 pub fn lower(
     numbers: &mut [u16; 24],
     held: &mut [u64; 6],

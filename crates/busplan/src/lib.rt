@@ -17,7 +17,4 @@ pub use call_slots::slots;
 pub use notation_write_out::{text_fault, write_out};
 
 // The types of the answers.
-pub use spec::{
-    Catalogue, Equality, Fault, LeadIn, Lengths, Loops, NormalForm, Precedence, Reason, Refusal,
-    Slots, Written,
-};
+pub use spec::{LeadIn, Loops, NormalForm, Reason, Refusal, Slots};

@@ -1,18 +1,14 @@
 -- Rows that hold the conflicts of a catalogue are the table that the call is to lend back, and so the call answers.
-use Rattle.std.specs.Prelude.{ℕ, zero, suc, ◌+◌, ◌<◌, ◌≡◌, refl, List, [], ◌∷◌, map, length, get_or}
-use Rattle.std.proofs.Common.{arith, sym, ◌∙◌, ap}
+use Rattle.std.specs.Prelude.{ℕ, zero, suc, ◌+◌, ◌<◌, ◌≡◌, refl, List, [], ◌∷◌, map, length, get_or, Ok}
+use Rattle.std.proofs.Common.{arith, ◌∙◌, ap}
 use Rattle.std.proofs.Math.Option.{none}
-use Rattle.spec.specs.Table.{first_line, line_of, given, refused}
-use Rattle.spec.specs.declared.Refusal.{Refusal}
+use Rattle.spec.specs.Table.{first_line}
 use Rattle.spec.specs.Answers.{yes_no}
 use Rattle.spec.specs.Catalogue.{commands, catalogue_lines}
 use Rattle.spec.specs.Conflict.{conflict}
-use Rattle.spec.specs.Calls.{catalogue_answer, catalogue_table, numbers, conflict_rows}
+use Rattle.spec.specs.Calls.{catalogue_table, numbers, conflict_rows}
 use Rattle.spec_laws.specs.ConflictLaws.{count}
-use Rattle.spec_laws.specs.SearchLaws.{passed_line, refused_line}
-use Rattle.input_catalogue.specs.Checked.{told_checked}
-use Rattle.input_catalogue.specs.declared.Checked.{Checked}
-use Rattle.input_catalogue.specs.declared.Checked.TheVariants.{Passed, Refused}
+use Rattle.spec_laws.specs.SearchLaws.{passed_line}
 use Rattle.input_chains.specs.Conflicts.{Conflicts}
 use Rattle.input_conflicts.specs.Reading.{Reading}
 
@@ -48,22 +44,9 @@ conflicts_rows c rows k = of_numbers [] (λ a. map (λ b. yes_no (conflict c a b
         of_numbers 0 (λ b. yes_no (conflict c (i + 1) b)) (get_or rows i []) (k.wide i h)
         (λ j g. k.tells i j h g)
 
-module _ {c : List ℕ} {rows : List (List ℕ)} {r : Checked} (d : Reading c rows r) where
-  -- the check passed, and the rows are handed over
-  module _ {n : ℕ} (e : r ≡ Passed n) where
-    pub read_answer : given n ≡ catalogue_answer c
-    read_answer = sym (ap told_checked e) ∙ d.answer
-
-    none_holds : first_line (catalogue_lines c) ≡ none
-    none_holds = passed_line (first_line (catalogue_lines c)) (commands c) read_answer
-
-    pub read_table : (table : List (List ℕ)) → rows ≡ catalogue_table c table
-    read_table table = rw none_holds (conflicts_rows c rows (d.conflicts none_holds))
-
-  -- the check was refused, and the table is as it was
-  module _ {f : Refusal} (e : r ≡ Refused f) where
-    pub refused_answer : refused (line_of f) ≡ catalogue_answer c
-    refused_answer = sym (ap told_checked e) ∙ d.answer
-
-    pub refused_table : (table : List (List ℕ)) → table ≡ catalogue_table c table
-    refused_table table = rw (refused_line (first_line (catalogue_lines c)) (commands c) refused_answer)
+-- the check passed, and the rows are handed over
+pub read_table : {c : List ℕ} {rows : List (List ℕ)} {n : ℕ} → Reading c rows (Ok n) → (table : List (List ℕ))
+    → rows ≡ catalogue_table c table
+read_table {c} {rows} d table =
+    let e : first_line (catalogue_lines c) ≡ none = passed_line (first_line (catalogue_lines c)) (commands c) d.answer in
+    rw e (conflicts_rows c rows (d.conflicts e))

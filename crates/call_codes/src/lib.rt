@@ -3,168 +3,101 @@
 
 #![tactic(auto)]
 
-ghost use Rattle.std.specs.Prelude.{ℕ, ◌+◌, ◌<◌, ◌^◌, ◌≡◌, pos, neg_ℤ};
+ghost use Rattle.std.specs.Prelude.{◌+◌, ◌<◌, ◌^◌, ◌≡◌, pos, neg_ℤ, IfOk, IfSome};
 ghost use Rattle.spec.specs.Table.{number_of};
-ghost use Rattle.spec.specs.declared.Written.TheVariants.{Length};
-ghost use Rattle.spec.specs.declared.Loops.TheVariants.{Joined};
-ghost use Rattle.spec.specs.declared.Slots.TheVariants.{Numbered};
 ghost use Rattle.spec.specs.Answers.{told_written, told_equality, told_loops, told_lead_in, told_fault};
 ghost use Rattle.spec.specs.Answers.{told_slots, told_precedence};
 ghost use Rattle.spec.specs.Codes.{length_code, equal_code, loops_code, check_code, fault_code};
 ghost use Rattle.spec.specs.Codes.{slots_code, in_use_number, precedence_code, refused_by};
 ghost use Rattle.spec.specs.Fault.{fault_numbers};
 
-use spec::{Equality, Fault, LeadIn, Loops, Precedence, Reason, Slots, Written};
+use spec::{LeadIn, Loops, Reason, Refusal, Slots};
 
-// The number that the manual's table gives a reason.
+// The number that the manual's table gives a reason. In a function, whose clause ties the cast to number_of.
 pub fn number(reason: Reason) -> u8
     ensures { result ≡ number_of reason }
 {
-    match reason {
-        Reason::CatalogueSize => 1,
-        Reason::CommandCount => 2,
-        Reason::Index => 3,
-        Reason::RecordCommand => 4,
-        Reason::EndlessChain => 5,
-        Reason::OwnChain => 6,
-        Reason::PlanSize => 7,
-        Reason::PlanByte => 8,
-        Reason::AreaSize => 9,
-        Reason::Framing => 11,
-        Reason::PairsSize => 12,
-        Reason::Text => 13,
-        Reason::Nesting => 14,
-        Reason::WrittenSize => 15,
-        Reason::Places => 16,
-        Reason::RecordCount => 17,
-    }
+    reason as u8
 }
 
-// Minus the number of a reason.
-fn refusal_code(reason: Reason) -> i64
-    ensures { result ≡ neg_ℤ (pos (number_of reason)) }
+// Minus the number of a refusal's reason.
+fn refusal_code(refusal: Refusal) -> i64
+    ensures { result ≡ neg_ℤ (pos (number_of refusal.reason)) }
 {
-    -(number(reason) as i64)
+    -(number(refusal.reason) as i64)
 }
 
-pub fn length_code(answer: Written) -> i64
-    requires { (l : ℕ) → answer ≡ Length l → l < 2 ^ 63 }
+pub fn length_code(answer: Result<usize, Refusal>) -> i64
+    requires { IfOk answer (λ l. l < 2 ^ 63) }
     ensures { result ≡ length_code (told_written answer) }
 {
-    match answer {
-        Written::Length(l) => l as i64,
-        Written::Refused(refusal) => {
-            let reason = refusal.reason;
-            refusal_code(reason)
-        }
-    }
+    answer.map_or_else(refusal_code, |length| length as i64)
 }
 
-pub fn slots_code(answer: Slots) -> i64
-    requires { (l n : ℕ) → answer ≡ Numbered l n → l < 2 ^ 63 }
+pub fn slots_code(answer: Result<Slots, Refusal>) -> i64
+    requires { IfOk answer (λ s. s.length < 2 ^ 63) }
     ensures { result ≡ slots_code (told_slots answer) }
 {
-    match answer {
-        Slots::Numbered { length, in_use: _ } => length as i64,
-        Slots::Refused(refusal) => {
-            let reason = refusal.reason;
-            refusal_code(reason)
-        }
-    }
+    answer.map_or_else(refusal_code, |slots| slots.length as i64)
 }
 
 // How many slots are in use, or the number that was there if the call is refused.
-pub fn slots_number(answer: Slots, number: [u64; 1]) -> [u64; 1]
+pub fn slots_number(answer: Result<Slots, Refusal>, number: [u64; 1]) -> [u64; 1]
     ensures { result ≡ in_use_number (told_slots answer) number }
 {
     match answer {
-        Slots::Numbered { length: _, in_use } => [in_use as u64],
-        Slots::Refused(_) => number,
+        Ok(slots) => [slots.in_use as u64],
+        Err(_) => number,
     }
 }
 
-pub fn precedence_code(answer: Precedence) -> i64
+pub fn precedence_code(answer: Result<bool, Refusal>) -> i64
     ensures { result ≡ precedence_code (told_precedence answer) }
 {
-    match answer {
-        Precedence::Yes => 1,
-        Precedence::No => 0,
-        Precedence::Refused(refusal) => {
-            let reason = refusal.reason;
-            refusal_code(reason)
-        }
-    }
+    equal_code(answer)
 }
 
 // What a precedence check is refused for, if it is.
-pub fn precedence_fault(answer: Precedence) -> Fault
+pub fn precedence_fault(answer: Result<bool, Refusal>) -> Option<Refusal>
     ensures { told_fault result ≡ refused_by (told_precedence answer) }
 {
-    match answer {
-        Precedence::Yes => Fault::Nothing,
-        Precedence::No => Fault::Nothing,
-        Precedence::Refused(refusal) => Fault::Found(refusal),
-    }
+    answer.err()
 }
 
-pub fn equal_code(answer: Equality) -> i64
+pub fn equal_code(answer: Result<bool, Refusal>) -> i64
     ensures { result ≡ equal_code (told_equality answer) }
 {
-    match answer {
-        Equality::Yes => 1,
-        Equality::No => 0,
-        Equality::Refused(refusal) => {
-            let reason = refusal.reason;
-            refusal_code(reason)
-        }
-    }
+    answer.map_or_else(refusal_code, |yes| yes as i64)
 }
 
-pub fn loops_code(answer: Loops) -> i64
-    requires { (l n : ℕ) → answer ≡ Joined l n → l + 1 < 2 ^ 63 }
+pub fn loops_code(answer: Result<Loops, Refusal>) -> i64
+    requires { IfOk answer (λ d. IfSome d.lead_in (λ l. l + 1 < 2 ^ 63)) }
     ensures { result ≡ loops_code (told_loops answer) }
 {
-    match answer {
-        Loops::Joined { length, rounds: _ } => (length + 1) as i64,
-        Loops::Apart { rounds: _ } => 0,
-        Loops::Refused(refusal) => {
-            let reason = refusal.reason;
-            refusal_code(reason)
-        }
-    }
+    answer.map_or_else(
+        refusal_code,
+        |loops| loops.lead_in.map_or(0, |length| (length + 1) as i64),
+    )
 }
 
-pub fn check_code(answer: LeadIn) -> i64
+pub fn check_code(answer: Result<LeadIn, Refusal>) -> i64
     ensures { result ≡ check_code (told_lead_in answer) }
 {
-    match answer {
-        LeadIn::Yes(_) => 1,
-        LeadIn::No(_) => 0,
-        LeadIn::Refused(refusal) => {
-            let reason = refusal.reason;
-            refusal_code(reason)
-        }
-    }
+    answer.map_or_else(refusal_code, |check| check.yes as i64)
 }
 
-pub fn fault_code(fault: Fault) -> i64
+pub fn fault_code(fault: Option<Refusal>) -> i64
     ensures { result ≡ fault_code (told_fault fault) }
 {
-    match fault {
-        Fault::Nothing => 0,
-        Fault::Found(refusal) => {
-            let reason = refusal.reason;
-            refusal_code(reason)
-        }
-    }
+    fault.map_or(0, refusal_code)
 }
 
 // The plan and the place of a fault, or the numbers that were there if there is none.
-pub fn fault_numbers(fault: Fault, numbers: [u64; 2]) -> [u64; 2]
+pub fn fault_numbers(fault: Option<Refusal>, numbers: [u64; 2]) -> [u64; 2]
     ensures { result ≡ fault_numbers (told_fault fault) numbers }
 {
     match fault {
-        Fault::Nothing => numbers,
-        Fault::Found(refusal) => [refusal.plan as u64, refusal.place as u64],
+        None => numbers,
+        Some(refusal) => [refusal.plan as u64, refusal.place as u64],
     }
 }

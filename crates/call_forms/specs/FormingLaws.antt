@@ -1,39 +1,37 @@
 -- A call that writes a form of its plan goes through its checks, then line 9 for its area and line 12 for its second.
-use Rattle.std.specs.Prelude.{ℕ, ◌<◌, ◌≤◌, ◌≡◌, refl, List, [], ◌∷◌, length}
+use Rattle.std.specs.Prelude.{ℕ, ◌<◌, ◌≤◌, ◌≡◌, refl, List, [], ◌∷◌, length, Ok, Err}
 use Rattle.std.proofs.Common.{◌∙◌, ap, lt-ltb, le-ltb}
 use Rattle.std.proofs.Math.Option.{Option, none, some}
-use Rattle.spec.specs.Table.{Line, line, Answer, refused, given, first_line, or_else}
+use Rattle.spec.specs.Table.{Line, line, Answer, refused, given, first_line, or_else, line_of}
 use Rattle.spec_laws.specs.TableLaws.{first_early, first_late}
 use Rattle.spec.specs.declared.Refusal.{Refusal}
 use Rattle.spec.specs.Answers.{FormCounts}
-use Rattle.input_catalogue.specs.declared.Checked.{Checked}
-use Rattle.input_catalogue.specs.declared.Checked.TheVariants.{Refused, Passed}
 use Rattle.array_row.specs.Area.{StartsWith}
 use Rattle.array_row.specs.AreaLaws.{starts_length, starts_area}
-use Rattle.input_checks.specs.Entry.{OnePlan, one_lines, SameRefusal}
-use Rattle.input_checks.specs.EntryLaws.{entered_none, entered_some}
+use Rattle.input_checks.specs.Entry.{OnePlan, one_lines}
+use Rattle.input_checks.specs.EntryLaws.{told_none, told_some}
 use Rattle.spec.specs.Calls.{plan_limit, area_line, area_after, normal_form_lines, pairs_line, paired_lines}
 use Rattle.spec_laws.specs.PairedLaws.{paired_alone}
 use Rattle.piling_pairs.specs.Pairing.{PairsOf}
 use Rattle.call_forms.specs.Forming.{WrittenForm, length_alone}
 
--- f is the form that is wanted
-module _ {c v : List ℕ} {rows : List (List ℕ)} {r : Checked} (d : OnePlan c v rows r)
-    (f : List ℕ → List ℕ → List ℕ) (area pairs : List ℕ) where
-  abbrev last : List (Option Line)
-  last = area_line 0 (length v) area ∷ pairs_line (length v) pairs ∷ []
+-- the lines behind those of the checks
+abbrev last : List ℕ → List ℕ → List ℕ → List (Option Line)
+last v area pairs = area_line 0 (length v) area ∷ pairs_line (length v) pairs ∷ []
 
+-- f is the form that is wanted
+module _ {c v : List ℕ} (f : List ℕ → List ℕ → List ℕ) (area pairs : List ℕ) where
   refused_by_lem : {t : Answer FormCounts} {l : Line} → first_line (paired_lines c v area pairs) ≡ some l → t ≡ refused l
       → WrittenForm f c v area pairs t area pairs
   refused_by_lem e k = record { answer = rw e k; bytes = rw e; numbered = rw e }
 
-  pub form_refused : {t : Answer FormCounts} {g : Refusal} → r ≡ Refused g → SameRefusal r t
-      → WrittenForm f c v area pairs t area pairs
-  form_refused {g = g} e s = refused_by_lem (first_early (one_lines c v) last (entered_some d e)) (s g e)
+  pub form_refused : {rows : List (List ℕ)} {g : Refusal} → OnePlan c v rows (Err g)
+      → WrittenForm f c v area pairs (refused (line_of g)) area pairs
+  form_refused d = refused_by_lem (first_early (one_lines c v) (last v area pairs) (told_some d.told)) refl
 
-  module _ {n : ℕ} (e : r ≡ Passed n) where
-    late : first_line (paired_lines c v area pairs) ≡ first_line last
-    late = first_late (one_lines c v) last (entered_none d e)
+  module _ {rows : List (List ℕ)} {n : ℕ} (d : OnePlan c v rows (Ok n)) where
+    late : first_line (paired_lines c v area pairs) ≡ first_line (last v area pairs)
+    late = first_late (one_lines c v) (last v area pairs) (told_none d.told)
 
     pub form_small : {l : Line} → length area < length v → l ≡ line 9 0 0
         → WrittenForm f c v area pairs (refused l) area pairs

@@ -7,25 +7,10 @@ ghost use Rattle.std.specs.Prelude.{◌≡◌, length};
 ghost use Rattle.spec.specs.Table.{line_of, line};
 ghost use Rattle.spec.specs.Answers.{told_written, told_normal_form};
 ghost use Rattle.spec.specs.Calls.{paired_answer, paired_area, paired_numbers, core_answer, core_area};
-ghost use Rattle.input_checks.specs.Entry.{SameRefusal};
 ghost use Rattle.piling_form.specs.Coring.{form};
 ghost use Rattle.call_forms.specs.Forming.{WrittenForm, length_alone};
 
-use input_catalogue::Checked;
-use spec::{NormalForm, Reason, Refusal, Written};
-
-// A refused check, passed on untouched as the answer of a call that writes a form.
-fn not_formed(checked: Checked) -> NormalForm
-    ensures { SameRefusal checked (told_normal_form result) }
-{
-    match checked {
-        Checked::Passed(n) => NormalForm::Written {
-            length: n,
-            pairs: 0,
-        },
-        Checked::Refused(refusal) => NormalForm::Refused(refusal),
-    }
-}
+use spec::{NormalForm, Reason, Refusal};
 
 // The refusal of a second area that is too small.
 fn small_pairs() -> Refusal
@@ -39,38 +24,40 @@ fn small_pairs() -> Refusal
 }
 
 // The normal form of plan, or of its core, written at the start of area, and the pairs that cancelled at the start of
-// pairs.
+// pairs. A bool tells it, for the reason at piling_form::peel_if.
 fn write_form(
     catalogue: &[u8],
     plan: &[u8],
     area: &mut [u8],
     pairs: &mut [u16],
     cored: bool,
-) -> NormalForm
+) -> Result<NormalForm, Refusal>
     ensures { WrittenForm (form cored) catalogue.now plan.now area.old
         pairs.old (told_normal_form result) area.new pairs.new }
 {
     let mut conflicts = input_conflicts::blank();
-    let checked = input_checks::one_plan(catalogue, plan, &mut conflicts);
-    let Checked::Passed(_) = checked else {
-        return not_formed(checked);
-    };
+    input_checks::one_plan(catalogue, plan, &mut conflicts)?;
     if area.len() < plan.len() {
-        return NormalForm::Refused(input_checks::small_area(0));
+        return Err(input_checks::small_area(0));
     }
     if pairs.len() < plan.len() {
-        return NormalForm::Refused(small_pairs());
+        return Err(small_pairs());
     }
     let formed = piling_form::form(plan, &conflicts, area, pairs, cored);
-    NormalForm::Written {
+    Ok(NormalForm {
         length: formed.form,
         pairs: formed.pairs,
-    }
+    })
 }
 
 // The normal form of plan, written at the start of area, and the places of the letters that cancelled with each other,
 // written two by two at the start of pairs.
-pub fn normal_form(catalogue: &[u8], plan: &[u8], area: &mut [u8], pairs: &mut [u16]) -> NormalForm
+pub fn normal_form(
+    catalogue: &[u8],
+    plan: &[u8],
+    area: &mut [u8],
+    pairs: &mut [u16],
+) -> Result<NormalForm, Refusal>
     ensures answer { told_normal_form result ≡ paired_answer catalogue.now plan.now
         area.old pairs.old }
     ensures bytes { area.new ≡ paired_area catalogue.now plan.now
@@ -85,21 +72,18 @@ pub fn normal_form(catalogue: &[u8], plan: &[u8], area: &mut [u8], pairs: &mut [
 pub fn own_pairs() -> [u16; 1024]
     ensures { 1024 ≡ length result }
 {
-    piling_pairs::blank_places()
+    array_row::row(0)
 }
 
 // The length alone of a normal form.
-pub fn length_alone(answer: NormalForm) -> Written
+pub fn length_alone(answer: Result<NormalForm, Refusal>) -> Result<usize, Refusal>
     ensures { told_written result ≡ length_alone (told_normal_form answer) }
 {
-    match answer {
-        NormalForm::Written { length, pairs: _ } => Written::Length(length),
-        NormalForm::Refused(refusal) => Written::Refused(refusal),
-    }
+    answer.map(|form| form.length)
 }
 
 // The core of plan, in normal form, written at the start of area.
-pub fn core(catalogue: &[u8], plan: &[u8], area: &mut [u8]) -> Written
+pub fn core(catalogue: &[u8], plan: &[u8], area: &mut [u8]) -> Result<usize, Refusal>
     ensures answer { told_written result
         ≡ core_answer catalogue.now plan.now area.old }
     ensures bytes { area.new

@@ -1,55 +1,52 @@
 -- The lead-in check goes through its checks, then line 9 for its two areas.
-use Rattle.std.specs.Prelude.{ℕ, ◌+◌, ◌<◌, ◌≤◌, ◌≡◌, refl, List, [], ◌∷◌, ◌++◌, length}
+use Rattle.std.specs.Prelude.{ℕ, ◌+◌, ◌<◌, ◌≤◌, ◌≡◌, refl, List, [], ◌∷◌, ◌++◌, length, Ok, Err}
 use Rattle.std.proofs.Common.{◌∙◌, ap, arith, lt-ltb, le-ltb}
 use Rattle.std.proofs.Math.Option.{Option, none, some}
-use Rattle.spec.specs.Table.{Line, line, Answer, refused, given, first_line}
+use Rattle.spec.specs.Table.{Line, line, Answer, refused, first_line, line_of}
 use Rattle.spec_laws.specs.TableLaws.{first_early, first_late}
 use Rattle.spec.specs.declared.Refusal.{Refusal}
-use Rattle.input_catalogue.specs.declared.Checked.{Checked}
-use Rattle.input_catalogue.specs.declared.Checked.TheVariants.{Refused, Passed}
 use Rattle.array_row.specs.AreaLaws.{starts_length, starts_area}
 use Rattle.spec.specs.Letters.{normal_form}
-use Rattle.long_equal.specs.declared.Both.{Both}
+use Rattle.spec.specs.declared.LeadIn.{LeadIn}
 use Rattle.long_equal.specs.Comparing.{Comparable, Compared}
-use Rattle.input_checks.specs.Entry.{ThreePlans, three_lines, SameRefusal}
-use Rattle.input_checks.specs.EntryLaws.{entered_none, entered_some}
-use Rattle.spec.specs.Answers.{CheckedLeadIn}
+use Rattle.input_checks.specs.Entry.{ThreePlans, three_lines}
+use Rattle.input_checks.specs.EntryLaws.{told_none, told_some}
+use Rattle.spec.specs.Answers.{CheckedLeadIn, told_lead_in}
 use Rattle.spec.specs.Calls.{area_line}
 use Rattle.spec_laws.specs.CallLaws.{exact_alike}
 use Rattle.spec.specs.Loops.{check_lines, check_answer, check_area0, check_area1}
 
 -- the answer t and both areas afterwards
-abbrev pub CheckOutcome : List ℕ → List ℕ → List ℕ → List ℕ → List ℕ → List ℕ → Answer CheckedLeadIn
-    → List ℕ → List ℕ → Type 0
-CheckOutcome c v w u area0 area1 t after0 after1 =
-    (t ≡ check_answer c v w u area0 area1)
-    × (after0 ≡ check_area0 c v w u area0 area1)
-    × (after1 ≡ check_area1 c v w u area0 area1)
+pub record Told (c v w u area0 area1 : List ℕ) (t : Answer CheckedLeadIn) (after0 after1 : List ℕ) : Type 0 where
+  pub answer : t ≡ check_answer c v w u area0 area1
+  pub bytes0 : after0 ≡ check_area0 c v w u area0 area1
+  pub bytes1 : after1 ≡ check_area1 c v w u area0 area1
 
-module _ {c v w : List ℕ} (u : List ℕ) {rows : List (List ℕ)} {r : Checked} (d : ThreePlans c v w u rows r)
-    (area0 area1 : List ℕ) where
-  abbrev last : List (Option Line)
-  last = area_line 0 (length v + length u) area0 ∷ area_line 1 (length u + length w) area1 ∷ []
+-- the lines behind those of the checks
+abbrev last : List ℕ → List ℕ → List ℕ → List ℕ → List ℕ → List (Option Line)
+last v w u area0 area1 =
+    area_line 0 (length v + length u) area0 ∷ area_line 1 (length u + length w) area1 ∷ []
 
+module _ {c v w : List ℕ} (u area0 area1 : List ℕ) where
   refused_by_lem : {t : Answer CheckedLeadIn} {l : Line} → first_line (check_lines c v w u area0 area1) ≡ some l
-      → t ≡ refused l → CheckOutcome c v w u area0 area1 t area0 area1
-  refused_by_lem e k = rw e (k, refl, refl)
+      → t ≡ refused l → Told c v w u area0 area1 t area0 area1
+  refused_by_lem e k = record { answer = rw e k; bytes0 = rw e; bytes1 = rw e }
 
-  pub check_refused : {t : Answer CheckedLeadIn} {f : Refusal} → r ≡ Refused f → SameRefusal r t
-      → CheckOutcome c v w u area0 area1 t area0 area1
-  check_refused {t} {f} e s = refused_by_lem (first_early (three_lines c v w u) last (entered_some d e)) (s f e)
+  pub check_refused : {rows : List (List ℕ)} {f : Refusal} → ThreePlans c v w u rows (Err f)
+      → Told c v w u area0 area1 (refused (line_of f)) area0 area1
+  check_refused d = refused_by_lem (first_early (three_lines c v w u) (last v w u area0 area1) (told_some d.told)) refl
 
-  module _ {n : ℕ} (e : r ≡ Passed n) where
-    late : first_line (check_lines c v w u area0 area1) ≡ first_line last
-    late = first_late (three_lines c v w u) last (entered_none d e)
+  module _ {rows : List (List ℕ)} {n : ℕ} (d : ThreePlans c v w u rows (Ok n)) where
+    late : first_line (check_lines c v w u area0 area1) ≡ first_line (last v w u area0 area1)
+    late = first_late (three_lines c v w u) (last v w u area0 area1) (told_none d.told)
 
     pub check_small0 : {l : Line} → length area0 < length v + length u → l ≡ line 9 0 0
-        → CheckOutcome c v w u area0 area1 (refused l) area0 area1
+        → Told c v w u area0 area1 (refused l) area0 area1
     check_small0 h k = refused_by_lem (late ∙ rw (lt-ltb (length area0) (length v + length u) h)) (ap refused k)
 
     module _ (h : length v + length u ≤ length area0) where
       pub check_small1 : {l : Line} → length area1 < length u + length w → l ≡ line 9 0 1
-          → CheckOutcome c v w u area0 area1 (refused l) area0 area1
+          → Told c v w u area0 area1 (refused l) area0 area1
       check_small1 i k =
           refused_by_lem
           (late ∙ rw (le-ltb (length area0) (length v + length u) h, lt-ltb (length area1) (length u + length w) i))
@@ -58,7 +55,7 @@ module _ {c v w : List ℕ} (u : List ℕ) {rows : List (List ℕ)} {r : Checked
       module _ (i : length u + length w ≤ length area1) where
         pub check_comparable : Comparable c rows v w u area0 area1
         check_comparable =
-            let ((p, q), (l, g)) = d.passed (entered_none d e) in
+            let ((p, q), (l, g)) = d.passed (told_none d.told) in
             record {
               first = record {
                 table = p.table;
@@ -78,20 +75,14 @@ module _ {c v w : List ℕ} (u : List ℕ) {rows : List (List ℕ)} {r : Checked
               };
             }
 
-        pub check_told : {b : Both} {after0 after1 : List ℕ} {t : Answer CheckedLeadIn}
-            → Compared c v w u area0 after0 area1 after1 b
-            → t ≡ given (record { yes = b.same; vu = b.vu; uw = b.uw })
-            → CheckOutcome c v w u area0 area1 t after0 after1
-        check_told {b} {after0} {after1} k j =
-            let s = exact_alike b.same (normal_form c (v ++ u)) (normal_form c (u ++ w)) k.same in
+        pub check_told : {b : LeadIn} {after0 after1 : List ℕ} → Compared c v w u area0 after0 area1 after1 b
+            → Told c v w u area0 area1 (told_lead_in (Ok b)) after0 after1
+        check_told {b} {after0} {after1} k =
+            let s = exact_alike b.yes (normal_form c (v ++ u)) (normal_form c (u ++ w)) k.same in
             let z : first_line (check_lines c v w u area0 area1) ≡ none =
             late ∙ rw (le-ltb (length area0) (length v + length u) h, le-ltb (length area1) (length u + length w) i) in
-            rw z (
-              j ∙ ap given (λ x. record {
-                yes = s x;
-                vu = starts_length k.written0 x;
-                uw = starts_length k.written1 x;
-              }),
-              starts_area k.written0,
-              starts_area k.written1,
-            )
+            record {
+              answer = rw (z, s, starts_length k.written0, starts_length k.written1);
+              bytes0 = rw z (starts_area k.written0);
+              bytes1 = rw z (starts_area k.written1);
+            }

@@ -1,17 +1,15 @@
 -- The precedence check goes through its checks, then line 16.
-use Rattle.std.specs.Prelude.{ℕ, ◌+◌, ◌*◌, ◌<◌, ◌≤◌, ◌≡◌, Bool, List, [], ◌∷◌, length, take}
-use Rattle.std.proofs.Common.{sym, ◌∙◌, ap, subst, arith}
+use Rattle.std.specs.Prelude.{ℕ, ◌≡◌, Bool, List, [], ◌∷◌, length, take, refl, Ok, Err, Some, None}
+use Rattle.std.proofs.Common.{sym, ◌∙◌, ap, subst}
 use Rattle.std.proofs.Math.Option.{Option, none, some}
-use Rattle.spec.specs.Table.{Line, line, Answer, refused, given, first_line}
+use Rattle.spec.specs.Table.{Line, line, refused, given, first_line, line_of}
 use Rattle.spec_laws.specs.TableLaws.{first_early, first_late}
 use Rattle.spec.specs.declared.Refusal.{Refusal}
 use Rattle.spec.specs.Letters.{normal_form}
 use Rattle.spec.specs.Precedence.{places_line, all_lead, precedence_lines, precedence_answer}
-use Rattle.input_catalogue.specs.declared.Checked.{Checked}
-use Rattle.input_catalogue.specs.declared.Checked.TheVariants.{Refused, Passed}
 use Rattle.input_checks.specs.Passed as Checks
-use Rattle.input_checks.specs.Entry.{OnePlan, one_lines, SameRefusal}
-use Rattle.input_checks.specs.EntryLaws.{entered_none, entered_some}
+use Rattle.input_checks.specs.Entry.{OnePlan, one_lines}
+use Rattle.input_checks.specs.EntryLaws.{told_none, told_some}
 use Rattle.array_row.specs.Area.{StartsWith}
 use Rattle.array_row.specs.AreaLaws.{starts_length, starts_take, starts_count}
 use Rattle.piling_form.specs.FormLaws.{form_lettered}
@@ -19,18 +17,12 @@ use Rattle.schedule_chains.specs.Following.{Followable}
 use Rattle.schedule_precedence.specs.Searching.{FirstPair, found, nowhere}
 
 -- where the search for a faulty pair has ended
-module _ {l : ℕ} {ns : List ℕ} {p : ℕ} where
-  pub pair_found : FirstPair l ns p → 2 * p < length ns → places_line l ns ≡ some (line 16 0 p)
-  pair_found (found h e) k = e
-  pair_found (nowhere h m e) k = absurd (omega arith)
+module _ {l : ℕ} {ns : List ℕ} where
+  pub pair_found : {p : ℕ} → FirstPair l ns (Some p) → places_line l ns ≡ some (line 16 0 p)
+  pair_found (found h e) = e
 
-  pub none_found : FirstPair l ns p → length ns ≤ 2 * p → places_line l ns ≡ none
-  none_found (found h e) k = absurd (omega arith)
-  none_found (nowhere h m e) k = e
-
-  pub pair_fits : FirstPair l ns p → 2 * p ≤ length ns + 1
-  pair_fits (found h e) = omega arith
-  pair_fits (nowhere h m e) = m
+  pub none_found : FirstPair l ns None → places_line l ns ≡ none
+  none_found (nowhere e) = e
 
 -- the normal form is written, and what was found of places in it holds of it
 pub form_ordered : {c : List ℕ} {conflicts : List (List ℕ)} {v area after : List ℕ} {k : ℕ}
@@ -47,16 +39,17 @@ module _ {x area after : List ℕ} {k : ℕ} (s : StartsWith x area after k) (ns
   pub places_area : places_line (length (take k after)) ns ≡ o
   places_area = ap (λ (n : ℕ). places_line n ns) (sym (starts_count s)) ∙ e
 
-module _ {c v : List ℕ} {rows : List (List ℕ)} {r : Checked} (d : OnePlan c v rows r) (ns : List ℕ) where
-  abbrev last : List (Option Line)
-  last = places_line (length (normal_form c v)) ns ∷ []
+-- the line behind those of the checks
+abbrev last : List ℕ → List ℕ → List ℕ → List (Option Line)
+last c v ns = places_line (length (normal_form c v)) ns ∷ []
 
-  pub check_refused : {t : Answer Bool} {g : Refusal} → r ≡ Refused g → SameRefusal r t → t ≡ precedence_answer c v ns
-  check_refused {g = g} e s = rw (first_early (one_lines c v) last (entered_some d e)) (s g e)
+module _ {c v : List ℕ} {rows : List (List ℕ)} (ns : List ℕ) where
+  pub check_refused : {f : Refusal} → OnePlan c v rows (Err f) → refused (line_of f) ≡ precedence_answer c v ns
+  check_refused d = rw (first_early (one_lines c v) (last c v ns) (told_some d.told)) refl
 
-  module _ {n : ℕ} (e : r ≡ Passed n) where
-    late : first_line (precedence_lines c v ns) ≡ first_line last
-    late = first_late (one_lines c v) last (entered_none d e)
+  module _ {n : ℕ} (d : OnePlan c v rows (Ok n)) where
+    late : first_line (precedence_lines c v ns) ≡ first_line (last c v ns)
+    late = first_late (one_lines c v) (last c v ns) (told_none d.told)
 
     pub pair_refused : {l m : Line} → places_line (length (normal_form c v)) ns ≡ some m → l ≡ m
         → refused l ≡ precedence_answer c v ns

@@ -1,8 +1,8 @@
 -- The slots call goes through its checks, then line 9 for its first area and for its second.
-use Rattle.std.specs.Prelude.{ℕ, ◌<◌, ◌≤◌, ◌≡◌, List, [], ◌∷◌, length, take}
+use Rattle.std.specs.Prelude.{ℕ, ◌<◌, ◌≤◌, ◌≡◌, List, [], ◌∷◌, length, take, refl, Ok, Err}
 use Rattle.std.proofs.Common.{sym, ◌∙◌, ap, subst, arith, lt-ltb, le-ltb}
 use Rattle.std.proofs.Math.Option.{Option, none, some}
-use Rattle.spec.specs.Table.{Line, line, Answer, refused, given, first_line}
+use Rattle.spec.specs.Table.{Line, line, Answer, refused, given, first_line, line_of}
 use Rattle.spec_laws.specs.TableLaws.{first_early, first_late}
 use Rattle.spec_laws.specs.NormalFormLaws.{normal_length}
 use Rattle.spec.specs.declared.Refusal.{Refusal}
@@ -10,11 +10,9 @@ use Rattle.spec.specs.Answers.{SlotCounts}
 use Rattle.spec.specs.Calls.{area_line}
 use Rattle.spec.specs.Letters.{normal_form}
 use Rattle.spec.specs.Slots.{slots_lines, slots_answer, slots_area, slots_numbers}
-use Rattle.input_catalogue.specs.declared.Checked.{Checked}
-use Rattle.input_catalogue.specs.declared.Checked.TheVariants.{Refused, Passed}
 use Rattle.input_checks.specs.Passed as Checks
-use Rattle.input_checks.specs.Entry.{OnePlan, one_lines, SameRefusal}
-use Rattle.input_checks.specs.EntryLaws.{entered_none, entered_some}
+use Rattle.input_checks.specs.Entry.{OnePlan, one_lines}
+use Rattle.input_checks.specs.EntryLaws.{told_none, told_some}
 use Rattle.array_row.specs.Area.{StartsWith}
 use Rattle.array_row.specs.AreaLaws.{starts_length, starts_take, starts_area}
 use Rattle.piling_form.specs.FormLaws.{form_lettered, form_short}
@@ -32,42 +30,47 @@ form_numberable {c} {conflicts} {v} {numbers = numbers} p s h =
       room = omega (arith, normal_length c v);
     })
 
-module _ {c v : List ℕ} {rows : List (List ℕ)} {r : Checked} (d : OnePlan c v rows r) (area numbers : List ℕ) where
-  -- an answer and both areas afterwards
-  abbrev pub Told : Answer SlotCounts → List ℕ → List ℕ → Type 0
-  Told t after numbers' =
-      (t ≡ slots_answer c v area numbers)
-      × ((after ≡ slots_area c v area numbers) × (numbers' ≡ slots_numbers c v area numbers))
+-- the answer t and both areas afterwards
+pub record Told (c v area numbers : List ℕ) (t : Answer SlotCounts) (after slots_after : List ℕ) : Type 0 where
+  pub answer : t ≡ slots_answer c v area numbers
+  pub bytes : after ≡ slots_area c v area numbers
+  pub numbered : slots_after ≡ slots_numbers c v area numbers
 
-  abbrev last : List (Option Line)
-  last = area_line 0 (length v) area ∷ area_line 1 (length v) numbers ∷ []
+abbrev last : List ℕ → List ℕ → List ℕ → List (Option Line)
+last v area numbers = area_line 0 (length v) area ∷ area_line 1 (length v) numbers ∷ []
 
+module _ {c v : List ℕ} (area numbers : List ℕ) where
   refused_by_lem : {t : Answer SlotCounts} {l : Line} → first_line (slots_lines c v area numbers) ≡ some l → t ≡ refused l
-      → Told t area numbers
-  refused_by_lem e k = (rw e k, (rw e, rw e))
+      → Told c v area numbers t area numbers
+  refused_by_lem e k = record { answer = rw e k; bytes = rw e; numbered = rw e }
 
-  pub slots_refused : {t : Answer SlotCounts} {g : Refusal} → r ≡ Refused g → SameRefusal r t → Told t area numbers
-  slots_refused {g = g} e s = refused_by_lem (first_early (one_lines c v) last (entered_some d e)) (s g e)
+  pub slots_refused : {rows : List (List ℕ)} {f : Refusal} → OnePlan c v rows (Err f)
+      → Told c v area numbers (refused (line_of f)) area numbers
+  slots_refused d = refused_by_lem (first_early (one_lines c v) (last v area numbers) (told_some d.told)) refl
 
-  module _ {n : ℕ} (e : r ≡ Passed n) where
-    late : first_line (slots_lines c v area numbers) ≡ first_line last
-    late = first_late (one_lines c v) last (entered_none d e)
+  module _ {rows : List (List ℕ)} {n : ℕ} (d : OnePlan c v rows (Ok n)) where
+    late : first_line (slots_lines c v area numbers) ≡ first_line (last v area numbers)
+    late = first_late (one_lines c v) (last v area numbers) (told_none d.told)
 
-    pub area_small : {l : Line} → length area < length v → l ≡ line 9 0 0 → Told (refused l) area numbers
+    pub area_small : {l : Line} → length area < length v → l ≡ line 9 0 0 → Told c v area numbers (refused l) area numbers
     area_small h k = refused_by_lem (late ∙ rw (lt-ltb (length area) (length v) h)) (ap refused k)
 
     pub numbers_small : {l : Line} → length v ≤ length area → length numbers < length v → l ≡ line 9 0 1
-        → Told (refused l) area numbers
+        → Told c v area numbers (refused l) area numbers
     numbers_small h i k =
         refused_by_lem (late ∙ rw (le-ltb (length area) (length v) h, lt-ltb (length numbers) (length v) i))
         (ap refused k)
 
-    pub slots_written : {k m : ℕ} {after numbers' : List ℕ} → length v ≤ length area → length v ≤ length numbers
-        → StartsWith (normal_form c v) area after k → SlotsOf c (take k after) numbers numbers' m
-        → Told (given (record { length = k; in_use = m })) after numbers'
-    slots_written {k} {m} {after} {numbers'} h i s p =
+    pub slots_written : {k m : ℕ} {after slots_after : List ℕ} → length v ≤ length area → length v ≤ length numbers
+        → StartsWith (normal_form c v) area after k → SlotsOf c (take k after) numbers slots_after m
+        → Told c v area numbers (given (record { length = k; in_use = m })) after slots_after
+    slots_written {k} {m} {after} {slots_after} h i s p =
         let z : first_line (slots_lines c v area numbers) ≡ none =
         late ∙ rw (le-ltb (length area) (length v) h, le-ltb (length numbers) (length v) i) in
-        let q : SlotsOf c (normal_form c v) numbers numbers' m =
-        subst (λ (x : List ℕ). SlotsOf c x numbers numbers' m) (starts_take s) p in
-        (rw (z, starts_length s, q.in_use), (rw z (starts_area s), rw z (starts_area q.written)))
+        let q : SlotsOf c (normal_form c v) numbers slots_after m =
+        subst (λ (x : List ℕ). SlotsOf c x numbers slots_after m) (starts_take s) p in
+        record {
+          answer = rw (z, starts_length s, q.in_use);
+          bytes = rw z (starts_area s);
+          numbered = rw z (starts_area q.written);
+        }

@@ -6,27 +6,17 @@
 ghost use Rattle.std.specs.Prelude.{◌≡◌};
 ghost use Rattle.spec.specs.Answers.{told_slots};
 ghost use Rattle.spec.specs.Slots.{slots_answer, slots_area, slots_numbers};
-ghost use Rattle.input_checks.specs.Entry.{SameRefusal};
 
-use input_catalogue::Checked;
-use spec::Slots;
-
-// A refused check, passed on untouched as the answer of the slots call.
-fn not_numbered(checked: Checked) -> Slots
-    ensures { SameRefusal checked (told_slots result) }
-{
-    match checked {
-        Checked::Passed(n) => Slots::Numbered {
-            length: n,
-            in_use: 0,
-        },
-        Checked::Refused(refusal) => Slots::Refused(refusal),
-    }
-}
+use spec::{Refusal, Slots};
 
 // The normal form of plan, written at the start of area, and the slot of each of its letters, written at the start of
 // slots.
-pub fn slots(catalogue: &[u8], plan: &[u8], area: &mut [u8], slots: &mut [u16]) -> Slots
+pub fn slots(
+    catalogue: &[u8],
+    plan: &[u8],
+    area: &mut [u8],
+    slots: &mut [u16],
+) -> Result<Slots, Refusal>
     ensures answer { told_slots result ≡ slots_answer catalogue.now plan.now area.old
         slots.old }
     ensures bytes { area.new ≡ slots_area catalogue.now plan.now
@@ -35,17 +25,14 @@ pub fn slots(catalogue: &[u8], plan: &[u8], area: &mut [u8], slots: &mut [u16]) 
         area.old slots.old }
 {
     let mut conflicts = input_conflicts::blank();
-    let checked = input_checks::one_plan(catalogue, plan, &mut conflicts);
-    let Checked::Passed(_) = checked else {
-        return not_numbered(checked);
-    };
+    input_checks::one_plan(catalogue, plan, &mut conflicts)?;
     if area.len() < plan.len() {
-        return Slots::Refused(input_checks::small_area(0));
+        return Err(input_checks::small_area(0));
     }
     if slots.len() < plan.len() {
-        return Slots::Refused(input_checks::small_area(1));
+        return Err(input_checks::small_area(1));
     }
     let length = piling_form::form_alone(plan, &conflicts, area);
     let in_use = schedule_slots::number(&area[..length], &conflicts, slots);
-    Slots::Numbered { length, in_use }
+    Ok(Slots { length, in_use })
 }

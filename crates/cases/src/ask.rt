@@ -1,100 +1,132 @@
-// The library's answers to the calls, as words; the crate cases_report says how.
+// The library's answers to the calls; the crate cases_report says how.
 
 ghost use Rattle.std.specs.Prelude.{◌<◌, ◌≤◌};
 
-use cases_report::{
-    checked, compared, formed, found, joined, paired, preceded, read, second_area, slotted,
-    widened, width, written,
-};
-use cases_solver::{Word, at, leads};
+use cases_report::{Answer, KEPT_NUMBER, Pairs, Slots, Told, kept, letters, refused, widened};
+use cases_solver::{Refusal, at, leads};
+use cases_table::{Call, Question};
 
-// The row of a command; that of command 1 for a number that is none.
+// The row of a command; that of command 1 for a number that is none. No Option: no line of the table asks about one.
 fn row(command: u8) -> usize
     ensures { result < 24 }
 {
-    if command == 0 {
-        return 0;
+    match command {
+        1..=24 => command as usize - 1,
+        _ => 0,
     }
-    if 24 < command {
-        return 0;
-    }
-    command as usize - 1
 }
 
 // Whether the first two commands of v conflict, by the table that reading the catalogue fills.
-fn conflict(c: &[u8], v: &[u8]) -> Word {
+fn conflict(c: &[u8], v: &[u8]) -> Result<Answer, Refusal> {
     let mut rows = [[0u16; 24]; 24];
     let answer = busplan::read_catalogue(c, &mut rows);
-    read(answer, rows[row(at(v, 0))][row(at(v, 1))])
+    let conflict = rows[row(at(v, 0))][row(at(v, 1))] == 1;
+    answer.map(|_| Answer::Conflict(conflict)).map_err(refused)
 }
 
-// The normal form, with a second area of so many numbers.
-fn normal(c: &[u8], v: &[u8], area: &mut [u8], numbers: usize) -> Word
-    requires { numbers ≤ 1100 }
-{
-    let mut second = second_area();
-    let answer = busplan::normal_form(c, v, area, &mut second[0..numbers]);
-    formed(answer, area)
+// The normal form, with a second area.
+fn normal(c: &[u8], v: &[u8], area: &mut [u8], second: &mut [u16]) -> Result<Answer, Refusal> {
+    let form = busplan::normal_form(c, v, area, second).map_err(refused)?;
+    Ok(Answer::Form(letters(area, form.length)))
 }
 
-// Its pairs.
-fn pairs(c: &[u8], v: &[u8], area: &mut [u8], numbers: usize) -> Word
+// Its pairs, with a second area of so many numbers.
+fn pairs(c: &[u8], v: &[u8], area: &mut [u8], numbers: usize) -> Told
     requires { numbers ≤ 1100 }
 {
-    let mut second = second_area();
-    let answer = busplan::normal_form(c, v, area, &mut second[0..numbers]);
-    paired(answer, &second)
+    let mut second = [KEPT_NUMBER; 1100];
+    let answer = busplan::normal_form(c, v, area, &mut second[..numbers]);
+    let pairs = answer.map_or(0, |form| form.pairs);
+    Told {
+        answer: answer
+            .map(|_| Answer::Pairs(Pairs::of(&second, pairs)))
+            .map_err(refused),
+        kept: kept(&second, pairs.saturating_mul(2), &KEPT_NUMBER),
+    }
 }
 
 // Its slots.
-fn slots(c: &[u8], v: &[u8], area: &mut [u8], numbers: usize) -> Word
+fn slots(c: &[u8], v: &[u8], area: &mut [u8], numbers: usize) -> Told
     requires { numbers ≤ 1100 }
 {
-    let mut second = second_area();
-    let answer = busplan::slots(c, v, area, &mut second[0..numbers]);
-    slotted(answer, area, &second)
+    let mut second = [KEPT_NUMBER; 1100];
+    let answer = busplan::slots(c, v, area, &mut second[..numbers]);
+    let length = answer.map_or(0, |told| told.length);
+    let form = letters(area, length);
+    Told {
+        answer: answer
+            .map(|told| Answer::Slots(Slots::of(form, &second, told.in_use)))
+            .map_err(refused),
+        kept: kept(&second, length, &KEPT_NUMBER),
+    }
 }
 
 // Whether its letters stay in the order of these places.
-fn precedence(c: &[u8], v: &[u8], places: &[u8]) -> Word {
+fn precedence(c: &[u8], v: &[u8], places: &[u8]) -> Result<Answer, Refusal> {
     let list = widened(places);
-    preceded(busplan::precedence(c, v, &list[0..width(places)]))
+    let answer = busplan::precedence(c, v, &list[..places.len().min(1100)]);
+    answer.map(Answer::InOrder).map_err(refused)
+}
+
+fn core(c: &[u8], v: &[u8], area: &mut [u8]) -> Result<Answer, Refusal> {
+    let length = busplan::core(c, v, area).map_err(refused)?;
+    Ok(Answer::Form(letters(area, length)))
+}
+
+fn equal(c: &[u8], v: &[u8], w: &[u8]) -> Result<Answer, Refusal> {
+    busplan::equal(c, v, w).map(Answer::Equal).map_err(refused)
 }
 
 // The lead-in must be one.
-fn loops(c: &[u8], v: &[u8], w: &[u8], area: &mut [u8]) -> Word {
-    let answer = busplan::loops(c, v, w, area);
-    joined(answer, leads(c, v, w, area, cases_report::lead_in(answer)))
+fn loops(c: &[u8], v: &[u8], w: &[u8], area: &mut [u8]) -> Result<Answer, Refusal> {
+    let told = busplan::loops(c, v, w, area).map_err(refused)?;
+    match told.lead_in {
+        None => Ok(Answer::Apart(told.rounds)),
+        Some(n) if leads(c, v, w, &area[..n.min(area.len())]) => Ok(Answer::Joined(told.rounds)),
+        Some(_) => Ok(Answer::Astray(told.rounds)),
+    }
 }
 
-fn lead_in(c: &[u8], v: &[u8], w: &[u8], u: &[u8]) -> Word {
+fn fault(c: &[u8], v: &[u8], w: &[u8], u: &[u8]) -> Result<Answer, Refusal> {
+    match busplan::fault(c, v, w, u) {
+        Some(refusal) => Err(refused(refusal)),
+        None => Ok(Answer::NoFault),
+    }
+}
+
+fn lead_in(c: &[u8], v: &[u8], w: &[u8], u: &[u8]) -> Result<Answer, Refusal> {
     let mut area0 = [0u8; 32];
     let mut area1 = [0u8; 32];
-    checked(busplan::lead_in_check(c, v, w, u, &mut area0, &mut area1))
+    let answer = busplan::lead_in_check(c, v, w, u, &mut area0, &mut area1);
+    answer.map(|told| Answer::LeadIn(told.yes)).map_err(refused)
 }
 
-// The answer to a call by its letter.
-pub fn asked(
-    call: u8,
-    c: &[u8],
-    v: &[u8],
-    w: &[u8],
-    u: &[u8],
-    area: &mut [u8],
-    numbers: usize,
-) -> Word
+// An answer to a call that has no second area to keep.
+fn plain(answer: Result<Answer, Refusal>) -> Told {
+    Told { answer, kept: true }
+}
+
+// The answer to a question, in an area and a second area of so many numbers.
+pub fn asked(q: &Question, area: &mut [u8], numbers: usize) -> Told
     requires { numbers ≤ 1100 }
 {
-    match call {
-        b'r' => conflict(c, v),
-        b'n' => normal(c, v, area, numbers),
-        b'p' => pairs(c, v, area, numbers),
-        b's' => slots(c, v, area, numbers),
-        b'o' => precedence(c, v, w),
-        b'c' => written(busplan::core(c, v, area), area),
-        b'e' => compared(busplan::equal(c, v, w)),
-        b'l' => loops(c, v, w, area),
-        b'f' => found(busplan::fault(c, v, w, u)),
-        _ => lead_in(c, v, w, u),
+    let c = q.catalogue.bytes();
+    let v = q.v.bytes();
+    let w = q.w.bytes();
+    let u = q.u.bytes();
+    match q.call {
+        Call::Conflict => plain(conflict(c, v)),
+        Call::NormalForm => {
+            let mut second = [KEPT_NUMBER; 1100];
+            plain(normal(c, v, area, &mut second[..numbers]))
+        }
+        Call::Pairs => pairs(c, v, area, numbers),
+        Call::Slots => slots(c, v, area, numbers),
+        Call::Precedence => plain(precedence(c, v, w)),
+        Call::Core => plain(core(c, v, area)),
+        Call::Equal => plain(equal(c, v, w)),
+        Call::Loops => plain(loops(c, v, w, area)),
+        Call::Fault => plain(fault(c, v, w, u)),
+        Call::LeadIn => plain(lead_in(c, v, w, u)),
     }
 }

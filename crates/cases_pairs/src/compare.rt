@@ -2,63 +2,39 @@
 
 ghost use Rattle.std.specs.Prelude.{◌≤◌};
 
-use cases_report::{Bytes, Numbers, area, bytes_kept, kept, refused, same_numbers, second_area};
-use cases_solver::{at, refusal_of_normal_form, same};
+use cases_report::{KEPT_BYTE, KEPT_NUMBER, Numbers, kept, refused};
+use cases_solver::check_normal_form;
 use spec::NormalForm;
 
-// A letter counts 1, a filler 0.
-fn letter(b: u8) -> usize
-    ensures { result ≤ 1 }
-{
-    if b == 0 { 0 } else { 1 }
+// Are the letters of a plan those of so many pairs and those left.
+fn counted(plan: &[u8], pairs: usize, left: usize) -> bool {
+    let letters = plan.iter().filter(|b| **b != 0).count();
+    pairs <= 1024 && left <= 1024 && 2 * pairs + left == letters
 }
 
-// How many letters a plan has.
-fn letters(plan: &[u8]) -> usize {
-    let mut count: usize = 0;
-    let mut i: usize = 0;
-    while i < plan.len() {
-        count += letter(at(plan, i));
-        i += 1;
-    }
-    count
-}
-
-// Are so many letters those of so many pairs and those left.
-fn counted(letters: usize, pairs: usize, left: usize) -> bool {
-    if 1024 < pairs {
-        return false;
-    }
-    if 1024 < left {
-        return false;
-    }
-    2 * pairs + left == letters
-}
-
-// Is this what the solver says of the pairs, with nothing else changed in the areas.
-fn right(c: &[u8], plan: &[u8], form: usize, pairs: usize, area: &Bytes, second: &Numbers) -> bool {
-    let mut own = second_area();
+// Is this what the solver says of the pairs, with nothing else changed in the second area.
+fn right(c: &[u8], plan: &[u8], form: NormalForm, second: &Numbers) -> bool {
+    let mut own = [KEPT_NUMBER; 1100];
     let n = cases_solver::pairs(c, plan, &mut own);
-    n == pairs
-        && same_numbers(&own, second)
-        && counted(letters(plan), pairs, form)
-        && bytes_kept(area, form)
+    n == form.pairs && own == *second && counted(plan, form.pairs, form.length)
 }
 
 // Do library and solver agree on a plan, with areas of so many bytes and numbers.
 pub fn agree(c: &[u8], plan: &[u8], bytes: usize, numbers: usize) -> bool
     requires { (bytes ≤ 1100) × (numbers ≤ 1100) }
 {
-    let mut first = area();
-    let mut second = second_area();
-    let answer = busplan::normal_form(c, plan, &mut first[0..bytes], &mut second[0..numbers]);
-    let theirs = refusal_of_normal_form(c, plan, bytes, numbers);
+    let mut first = [KEPT_BYTE; 1100];
+    let mut second = [KEPT_NUMBER; 1100];
+    let answer = busplan::normal_form(c, plan, &mut first[..bytes], &mut second[..numbers]);
+    let theirs = check_normal_form(c, plan, bytes, numbers);
     match answer {
-        NormalForm::Written { length, pairs } => {
-            at(&theirs, 63) == 0 && right(c, plan, length, pairs, &first, &second)
+        Ok(form) => {
+            theirs.is_ok() && right(c, plan, form, &second) && kept(&first, form.length, &KEPT_BYTE)
         }
-        NormalForm::Refused(refusal) => {
-            same(refused(refusal), theirs) && kept(&second, 0) && bytes_kept(&first, 0)
+        Err(refusal) => {
+            theirs == Err(refused(refusal))
+                && kept(&second, 0, &KEPT_NUMBER)
+                && kept(&first, 0, &KEPT_BYTE)
         }
     }
 }

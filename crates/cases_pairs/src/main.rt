@@ -8,75 +8,63 @@ mod compare;
 ghost use Rattle.std.specs.Prelude.{◌<◌, ◌≤◌};
 
 use cases_random::{
-    Catalogue, Plan, area_size, blank_catalogue, blank_plan, catalogue_size, draw, fill_catalogue,
-    fill_plan, harm, plan_size, room,
+    Catalogue, Plan, Random, area_size, harm, harm_size, plan_size, random_catalogue, random_plan,
 };
+use cases_report::every;
 use compare::agree;
 
 // The size of a plan: most are short, some as long as a plan may be.
-fn size(state: &mut u32) -> usize
+fn size(random: &mut Random) -> usize
     ensures { result ≤ 1024 }
 {
-    match draw(state, 8) {
+    match random.draw(8) {
         0 => 1024,
-        1 => draw(state, 1025),
-        _ => draw(state, 65),
+        1 => random.draw(1025),
+        _ => random.draw(65),
     }
 }
 
-// Puts a catalogue and a plan of so many bytes to library and solver, with areas that are large enough: do they agree.
-fn whole(state: &mut u32, c: Catalogue, bytes: usize, plan: Plan, size: usize) -> bool
-    requires { (bytes < 3300) × (size ≤ 1024) }
+// A catalogue and a plan at random. Not that of cases_slots: it draws another size, and commands of the first 6.
+fn drawn(random: &mut Random) -> (Catalogue, Plan)
+    ensures { (result.0.size < 3300) × (result.1.size ≤ 1024) }
 {
-    let first = room(state, size);
-    let second = room(state, size);
-    agree(&c[0..bytes], &plan[0..size], first, second)
+    let n = 1 + random.draw(24);
+    let c = random_catalogue(random, n);
+    let size = size(random);
+    let some = 1 + random.draw(n);
+    let plan = random_plan(random, size, some);
+    (c, plan)
+}
+
+// Puts a catalogue and a plan at random to library and solver, with areas that are large enough: do they agree.
+fn whole(random: &mut Random) -> bool {
+    let (c, plan) = drawn(random);
+    let first = random.room(plan.size);
+    let second = random.room(plan.size);
+    agree(c.used(), plan.used(), first, second)
 }
 
 // The same, damaged.
-fn harmed(state: &mut u32, catalogue: Catalogue, bytes: usize, plan: Plan, size: usize) -> bool
-    requires { (bytes < 3300) × (size ≤ 1024) }
-{
-    let mut c = catalogue;
-    let mut v = plan;
-    harm(state, &mut c, bytes);
-    harm(state, &mut v, size);
-    let n = catalogue_size(state, &mut c, bytes);
-    let m = plan_size(state, size);
-    let first = area_size(state, m);
-    let second = area_size(state, m);
-    agree(&c[0..n], &v[0..m], first, second)
+fn harmed(random: &mut Random) -> bool {
+    let (mut c, mut plan) = drawn(random);
+    harm(random, &mut c);
+    harm(random, &mut plan);
+    harm_size(random, &mut c);
+    let m = plan_size(random, plan.size);
+    plan.size = m;
+    let first = area_size(random, m);
+    let second = area_size(random, m);
+    agree(c.used(), plan.used(), first, second)
 }
 
-// Puts a catalogue and a plan at random.
-fn put(state: &mut u32, damaged: bool) -> bool {
-    let mut c = blank_catalogue();
-    let mut plan = blank_plan();
-    let n = 1 + draw(state, 24);
-    let bytes = fill_catalogue(state, &mut c, n);
-    let size = size(state);
-    let some = 1 + draw(state, n);
-    fill_plan(state, &mut plan, size, some);
-    if damaged {
-        harmed(state, c, bytes, plan, size)
-    } else {
-        whole(state, c, bytes, plan, size)
-    }
-}
-
-// 50,000 plans, all as they should be or all damaged.
-fn every(damaged: bool, what: &[u8]) {
-    let mut state: u32 = 1;
-    let mut agreed: usize = 0;
-    let mut t: usize = 0;
-    while t < 50000 {
-        agreed += put(&mut state, damaged) as usize;
-        t += 1;
-    }
-    cases_report::count(agreed, t, what);
-}
-
+// 50,000 plans as they should be, then as many that are damaged.
 fn main() {
-    every(false, b" plans agree, in pairs\n");
-    every(true, b" damaged inputs agree, in refusals and pairs\n");
+    let mut random = Random::new();
+    every(50000, |_| whole(&mut random), b" plans agree, in pairs\n");
+    let mut random = Random::new();
+    every(
+        50000,
+        |_| harmed(&mut random),
+        b" damaged inputs agree, in refusals and pairs\n",
+    );
 }

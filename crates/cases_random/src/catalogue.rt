@@ -2,123 +2,161 @@
 // records, so that none has its own command and none is endless. Some chains share a tail, and some records are in no
 // chain.
 
-ghost use Rattle.std.specs.Prelude.{◌+◌, ◌<◌, ◌≤◌};
+ghost use Rattle.std.specs.Prelude.{◌≡◌, ◌+◌, ◌<◌, ◌≤◌};
 
-use crate::random::draw;
+use crate::buffer::Buffer;
+use crate::random::Random;
 use cases_solver::at;
 
 // Room for any catalogue that passes, and for some that are too large.
-pub type Catalogue = [u8; 3400];
+pub type Catalogue = Buffer<3400>;
 
-pub fn blank_catalogue() -> Catalogue {
-    [0; 3400]
+// A catalogue that grows: of the first or the second edition, with so many commands and records. Of which edition it
+// is, is a property of the data, as in the first byte of a catalogue: it tells how wide heads and indices are. The
+// bytes are no Buffer yet, as the size is known only at the end.
+#[derive(Drop)]
+struct Draft {
+    second: bool,
+    commands: usize,
+    records: usize,
+    bytes: [u8; 3400],
 }
 
-fn put(c: &mut Catalogue, i: usize, b: usize) {
-    if i < 3400 {
-        c[i] = (b % 256) as u8;
+impl Draft {
+    // The place of the head of command a.
+    fn head(&self, a: usize) -> usize
+        requires { a ≤ 24 }
+        ensures { result < 3400 }
+    {
+        if self.second { 1 + 2 * a } else { 1 + a }
+    }
+
+    // The place of record j.
+    fn record(&self, j: usize) -> usize
+        requires { (self.now.commands ≤ 24) × (j ≤ 1025) }
+        ensures { result < 3300 }
+    {
+        if self.second {
+            2 * self.commands + 3 * j
+        } else {
+            self.commands + 2 * j
+        }
+    }
+
+    // The index at place i.
+    fn index(&self, i: usize) -> usize
+        requires { i < 3400 }
+    {
+        let low = usize::from(at(&self.bytes, i));
+        if self.second {
+            low + 256 * usize::from(at(&self.bytes, i + 1))
+        } else {
+            low
+        }
+    }
+
+    // Puts a number as byte i, if there is room for it.
+    fn put(&mut self, i: usize, b: usize)
+        ensures commands_kept { self.new.commands ≡ self.old.commands }
+        ensures records_kept { self.new.records ≡ self.old.records }
+    {
+        if i < 3400 {
+            self.bytes[i] = (b % 256) as u8;
+        }
+    }
+
+    fn put_index(&mut self, i: usize, index: usize)
+        requires { i < 3400 }
+        ensures commands_kept { self.new.commands ≡ self.old.commands }
+        ensures records_kept { self.new.records ≡ self.old.records }
+    {
+        self.put(i, index);
+        if self.second {
+            self.put(i + 1, index / 256);
+        }
+    }
+
+    // Makes a record more, of command b, the first in the chain of command a.
+    fn add(&mut self, a: usize, b: usize)
+        requires commands_bound { (a < 24) × (self.old.commands ≤ 24) }
+        requires records_bound { self.old.records < 1024 }
+        ensures commands_kept { self.new.commands ≡ self.old.commands }
+        ensures one_more { self.new.records ≡ self.old.records + 1 }
+    {
+        let head = self.head(a);
+        let next = self.index(head);
+        let more = self.records + 1;
+        let place = self.record(more);
+        self.put(place, b);
+        self.put_index(place + 1, next);
+        self.put_index(head, more);
+        self.records = more;
+    }
+
+    // A record more in the chain of some command, or that command takes the chain of a larger one.
+    fn grow(&mut self, random: &mut Random)
+        requires commands_bound { (1 < self.old.commands) × (self.old.commands ≤ 24) }
+        requires records_bound { self.old.records < 1024 }
+        ensures commands_kept { self.new.commands ≡ self.old.commands }
+        ensures at_most_one { self.new.records ≤ self.old.records + 1 }
+    {
+        let a = 1 + random.draw(self.commands - 1);
+        let b = a + 1 + random.draw(self.commands - a);
+        if random.draw(8) == 0 {
+            let chain = self.index(self.head(b));
+            self.put_index(self.head(a), chain);
+        } else {
+            self.add(a, b);
+        }
     }
 }
 
-// The byte that tells the edition and n commands.
-fn first_byte(second: bool, n: usize) -> usize
-    requires { n ≤ 24 }
-{
-    if second { 128 + n } else { n }
-}
-
-// The place of the head of command a.
-fn head(second: bool, a: usize) -> usize
-    requires { a ≤ 24 }
-    ensures { result < 3400 }
-{
-    if second { 1 + 2 * a } else { 1 + a }
-}
-
-// The place of record j behind n heads.
-fn record(second: bool, n: usize, j: usize) -> usize
-    requires { (n ≤ 24) × (j ≤ 1025) }
-    ensures { result < 3300 }
-{
-    if second {
-        return 2 * n + 3 * j;
-    }
-    n + 2 * j
-}
-
-// The index at place i.
-fn index(c: &Catalogue, second: bool, i: usize) -> usize
-    requires { i < 3400 }
-{
-    let low = at(c, i) as usize;
-    if second {
-        return low + 256 * (at(c, i + 1) as usize);
-    }
-    low
-}
-
-fn put_index(c: &mut Catalogue, second: bool, i: usize, index: usize)
-    requires { i < 3400 }
-{
-    put(c, i, index);
-    if second {
-        put(c, i + 1, index / 256);
-    }
-}
-
-// Makes a record of command b the first in the chain of command a, behind so many records.
-fn add(c: &mut Catalogue, second: bool, a: usize, b: usize, n: usize, records: usize)
-    requires { (a < 24) × (n ≤ 24) × (records < 1024) }
-{
-    let next = index(c, second, head(second, a));
-    let place = record(second, n, records + 1);
-    put(c, place, b);
-    put_index(c, second, place + 1, next);
-    put_index(c, second, head(second, a), records + 1);
-}
-
-// A record more in the chain of some command, or that command takes the chain of a larger one. Gives the number of
-// records.
-fn grow(state: &mut u32, c: &mut Catalogue, second: bool, n: usize, records: usize) -> usize
-    requires { (1 < n) × (n ≤ 24) × (records < 1024) }
-    ensures { result ≤ records + 1 }
-{
-    let a = 1 + draw(state, n - 1);
-    let b = a + 1 + draw(state, n - a);
-    if draw(state, 8) == 0 {
-        let chain = index(c, second, head(second, b));
-        put_index(c, second, head(second, a), chain);
-        return records;
-    }
-    add(c, second, a, b, n, records);
-    records + 1
-}
-
-// How often a catalogue grows: at most 255 times, and in the second edition now and then up to 1,024 times.
-fn turns(state: &mut u32, second: bool) -> usize
+// How often a catalogue grows: at most 255 times, and in the second edition now and then up to 1,024 times, since only
+// that has room for as many records.
+fn turns(random: &mut Random, second: bool) -> usize
     ensures { result ≤ 1024 }
 {
-    if second && draw(state, 8) == 0 {
-        return draw(state, 1025);
+    if second && random.draw(8) == 0 {
+        return random.draw(1025);
     }
-    let most = draw(state, 256) + 1;
-    draw(state, most)
+    let most = random.draw(256) + 1;
+    random.draw(most)
 }
 
-// Writes a catalogue of n commands, of the first or the second edition, and gives the number of its bytes.
-pub fn fill_catalogue(state: &mut u32, c: &mut Catalogue, n: usize) -> usize
+// A catalogue of n commands that has grown.
+fn grown(random: &mut Random, n: usize) -> Draft
     requires { (0 < n) × (n ≤ 24) }
-    ensures { result < 3300 }
+    ensures commands { result.commands ≡ n }
+    ensures records { result.records ≤ 1024 }
 {
-    let second = draw(state, 2) == 1;
-    let turns = turns(state, second);
-    let mut records: usize = 0;
-    let mut turn: usize = 0;
-    while turn < turns && 1 < n {
-        records = grow(state, c, second, n, records);
-        turn += 1;
+    let second = random.draw(2) == 1;
+    let mut draft = Draft {
+        second,
+        commands: n,
+        records: 0,
+        bytes: [0; 3400],
+    };
+    let turns = turns(random, second);
+    if 1 < n {
+        for _turn in 0..turns {
+            draft.grow(random);
+        }
     }
-    put(c, 0, first_byte(second, n));
-    put_index(c, second, 1, records);
-    record(second, n, records + 1)
+    draft
+}
+
+// A catalogue of n commands.
+pub fn random_catalogue(random: &mut Random, n: usize) -> Catalogue
+    requires { (0 < n) × (n ≤ 24) }
+    ensures { result.size < 3300 }
+{
+    let mut draft = grown(random, n);
+    let records = draft.records;
+    let first = if draft.second { 128 + n } else { n };
+    draft.put(0, first);
+    draft.put_index(1, records);
+    Catalogue {
+        bytes: draft.bytes,
+        size: draft.record(records + 1),
+    }
 }

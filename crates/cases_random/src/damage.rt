@@ -1,71 +1,65 @@
 // Damage: bytes that may not stand where they are, a catalogue of too many records or of another size, a plan that is
 // too long and areas that are too small, each now and then.
 
-ghost use Rattle.std.specs.Prelude.{◌<◌, ◌≤◌};
+ghost use Rattle.std.specs.Prelude.{◌≡◌, ◌<◌, ◌≤◌};
 
-use crate::random::draw;
-use cases_solver::at;
+use crate::buffer::Buffer;
+use crate::catalogue::Catalogue;
+use crate::random::Random;
 
-// One time in four, puts another byte, more often a small one, among the first n.
-pub fn harm(state: &mut u32, bytes: &mut [u8], n: usize)
-    requires { n < 3400 }
+// One time in four, puts another byte, more often a small one, among those in use or behind them.
+pub fn harm<const N: usize>(random: &mut Random, buffer: &mut Buffer<N>)
+    requires { buffer.old.size < 3400 }
+    ensures { buffer.new.size ≡ buffer.old.size }
 {
-    let i = draw(state, n + 1);
-    let most = draw(state, 256) + 1;
-    let b = draw(state, most);
-    if draw(state, 4) == 0 && i < bytes.len() {
-        bytes[i] = b as u8;
+    let i = random.draw(buffer.size + 1);
+    let most = random.draw(256) + 1;
+    let b = random.draw(most);
+    if random.draw(4) == 0 {
+        buffer.put(i, b);
     }
 }
 
 // One time in 16 gives a catalogue of the second edition some records too many, and the size that it then tells.
-fn overfill(state: &mut u32, c: &mut [u8], size: usize) -> usize
-    requires { size < 3300 }
-    ensures { result < 3390 }
+fn overfill(random: &mut Random, c: &mut Catalogue)
+    requires { c.old.size < 3300 }
+    ensures { c.new.size < 3390 }
 {
-    let first = at(c, 0) as usize;
-    let records = 1025 + draw(state, 8);
-    if draw(state, 16) != 0 || first < 128 {
-        return size;
+    let first = usize::from(c.bytes[0]);
+    let records = 1025 + random.draw(8);
+    if random.draw(16) == 0 && 128 <= first {
+        c.put(1, records);
+        c.put(2, records / 256);
+        c.size = 3 + 2 * (first % 128) + 3 * records;
     }
-    if c.len() < 3 {
-        return size;
-    }
-    c[1] = (records % 256) as u8;
-    c[2] = (records / 256 % 256) as u8;
-    3 + 2 * (first % 128) + 3 * records
 }
 
-// The size of a catalogue; one time in 16 it is another, most often a smaller one.
-pub fn catalogue_size(state: &mut u32, c: &mut [u8], size: usize) -> usize
-    requires { size < 3300 }
-    ensures { result < 3400 }
+// Harms the size of a catalogue; one time in 16 it is another, most often a smaller one.
+pub fn harm_size(random: &mut Random, c: &mut Catalogue)
+    requires { c.old.size < 3300 }
 {
-    let told = overfill(state, c, size);
-    if draw(state, 16) == 0 {
-        return draw(state, told + 9);
+    overfill(random, c);
+    if random.draw(16) == 0 {
+        c.size = random.draw(c.size + 9);
     }
-    told
 }
 
 // The size of a plan.
-pub fn plan_size(state: &mut u32, size: usize) -> usize
+pub fn plan_size(random: &mut Random, size: usize) -> usize
     requires { size ≤ 1024 }
     ensures { result ≤ 1025 }
 {
-    if draw(state, 16) == 0 {
-        return 1025;
-    }
-    size
+    if random.draw(16) == 0 { 1025 } else { size }
 }
 
 // The size of an area for a plan of so many bytes.
-pub fn area_size(state: &mut u32, size: usize) -> usize
+pub fn area_size(random: &mut Random, size: usize) -> usize
     requires { size ≤ 1025 }
     ensures { result ≤ 1100 }
 {
-    if draw(state, 4) == 0 {
-        return draw(state, size + 1);
+    if random.draw(4) == 0 {
+        random.draw(size + 1)
+    } else {
+        size
     }
-    size
 }

@@ -2,12 +2,14 @@
 
 #![tactic(auto)]
 
+mod buffer;
 mod catalogue;
 mod damage;
 mod plan;
 mod random;
 
-pub use catalogue::{Catalogue, blank_catalogue, fill_catalogue};
-pub use damage::{area_size, catalogue_size, harm, plan_size};
-pub use plan::{Plan, blank_plan, fill_plan};
-pub use random::{draw, room};
+pub use buffer::Buffer;
+pub use catalogue::{Catalogue, random_catalogue};
+pub use damage::{area_size, harm, harm_size, plan_size};
+pub use plan::{Plan, random_plan};
+pub use random::Random;

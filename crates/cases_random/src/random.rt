@@ -2,23 +2,35 @@
 
 ghost use Rattle.std.specs.Prelude.{◌<◌, ◌≤◌};
 
-// A number below n. The state is never 0 if it is not at first.
-pub fn draw(state: &mut u32, n: usize) -> usize
-    requires { 0 < n }
-    ensures { result < n }
-{
-    let next = (*state as u64) * 48271 % 2147483647;
-    *state = next as u32;
-    next as usize % n
+#[derive(Drop)]
+pub struct Random {
+    state: u32,
 }
 
-// The size of an area for a plan of so many bytes: just large enough, or larger.
-pub fn room(state: &mut u32, size: usize) -> usize
-    requires { size ≤ 1024 }
-    ensures { result ≤ 1100 }
-{
-    if draw(state, 2) == 0 {
-        return size;
+impl Random {
+    pub fn new() -> Self {
+        Random { state: 1 }
     }
-    size + draw(state, 1101 - size)
+
+    // A number below n. The state is never 0, since it is not at first.
+    pub fn draw(&mut self, n: usize) -> usize
+        requires { 0 < n }
+        ensures { result < n }
+    {
+        let next = u64::from(self.state) * 48271 % 2147483647;
+        self.state = next as u32;
+        next as usize % n
+    }
+
+    // The size of an area for a plan of so many bytes: just large enough, or larger.
+    pub fn room(&mut self, size: usize) -> usize
+        requires { size ≤ 1024 }
+        ensures { result ≤ 1100 }
+    {
+        if self.draw(2) == 0 {
+            size
+        } else {
+            size + self.draw(1101 - size)
+        }
+    }
 }

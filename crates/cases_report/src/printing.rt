@@ -1,16 +1,15 @@
-// Printing: answers, each behind a space and letters as the manual writes them, and counts.
+// Printing: answers, each behind a space and letters as the manual writes them, and counts. The kit's io takes no
+// handle, which Display and println would have to be given.
 
-ghost use Rattle.std.specs.Prelude.{◌<◌};
-
-use cases_solver::{Word, at, same};
+use crate::answer::{Answer, Pairs, Slots, Told};
+use cases_solver::{Form, Refusal};
 
 pub fn text(bytes: &[u8]) {
     io::write_all(1, bytes);
 }
 
 pub fn byte(b: u8) {
-    let one = [b];
-    text(&one);
+    text(&[b]);
 }
 
 pub fn number(n: usize) {
@@ -26,48 +25,27 @@ pub fn signed(b: u8) {
     number((b % 128) as usize);
 }
 
-// The letters of a normal form, behind their number.
-fn word(form: Word) {
-    let n = at(&form, 0) as usize;
-    if n == 0 {
+fn form(form: &Form) {
+    if form.length == 0 {
         text(b" empty");
     }
-    let mut i: usize = 0;
-    while i < n {
-        i += 1;
-        signed(at(&form, i));
+    for a in form.letters.iter().take(form.length) {
+        signed(*a);
     }
 }
 
-// The number in two bytes of an answer, from place k on.
-fn place(answer: Word, k: usize)
-    requires { k < 64 }
-{
-    number(256 * (at(&answer, k) as usize) + at(&answer, k + 1) as usize);
-}
-
-// Whether all was kept that was to be.
-fn kept(answer: Word) {
-    if at(&answer, 59) != 0 {
-        text(b", but a number to be kept has changed");
-    }
-}
-
-// The pairs of a normal form, as 1-4 each.
-fn pairs(answer: Word) {
-    let n = at(&answer, 0) as usize;
-    if n == 0 {
+// Pairs, as 1-4 each.
+fn pairs(pairs: &Pairs) {
+    if pairs.count == 0 {
         text(b" none");
     }
-    let mut i: usize = 0;
-    while i < 14 && i < n {
+    let (places, _) = pairs.places.as_chunks::<2>();
+    for [earlier, later] in places.iter().take(pairs.count) {
         byte(b' ');
-        place(answer, 4 * i + 1);
+        number(*earlier as usize);
         byte(b'-');
-        place(answer, 4 * i + 3);
-        i += 1;
+        number(*later as usize);
     }
-    kept(answer);
 }
 
 // How many slots are in use.
@@ -82,104 +60,79 @@ fn in_use(n: usize) {
 }
 
 // A normal form and its slots.
-fn slots(answer: Word) {
-    word(answer);
-    let n = at(&answer, 0) as usize;
-    if n != 0 {
+fn slots(slots: &Slots) {
+    form(&slots.form);
+    if slots.form.length != 0 {
         text(b", slots");
     }
-    let mut i: usize = 0;
-    while i < 28 && i < n {
+    for slot in slots.slots.iter().take(slots.form.length) {
         byte(b' ');
-        number(at(&answer, 30 + i) as usize);
-        i += 1;
+        number(*slot as usize);
     }
-    in_use(at(&answer, 29) as usize);
-    kept(answer);
+    in_use(slots.in_use);
 }
 
-fn refusal(answer: Word) {
+pub fn refusal(refusal: Refusal) {
     text(b" refused");
-    signed(at(&answer, 63));
-    signed(at(&answer, 62));
+    signed(refusal.number);
+    signed(refusal.plan);
     byte(b' ');
-    place(answer, 60);
-    kept(answer);
+    number(refusal.place);
 }
 
-fn yes(call: u8) {
-    match call {
-        b'e' => text(b" equal"),
-        b'l' => text(b" joined"),
-        b'r' => text(b" in conflict"),
-        b'o' => text(b" yes"),
-        _ => text(b" a lead-in"),
-    }
+// What is told of an answer that holds or not, in the caller's words for either; no step depends on it.
+fn verdict(holds: bool, yes: &[u8], no: &[u8]) {
+    text(if holds { yes } else { no });
 }
 
-fn no(call: u8) {
-    match call {
-        b'e' => text(b" not equal"),
-        b'l' => text(b" apart"),
-        b'r' => text(b" not in conflict"),
-        b'o' => text(b" no"),
-        b'f' => text(b" no fault"),
-        _ => text(b" no lead-in"),
-    }
-}
-
-fn verdict(call: u8, number: u8) {
-    match number {
-        0 => no(call),
-        1 => yes(call),
-        _ => text(b" joined, but the lead-in is none"),
-    }
-}
-
-// The rounds that settling takes, behind a verdict on two loops.
-fn rounds(call: u8, n: u8) {
-    if call != b'l' {
-        return;
-    }
+// A verdict on two loops, and the rounds that settling takes.
+fn loops(verdict: &[u8], rounds: usize) {
+    text(verdict);
     text(b", ");
-    number(n as usize);
+    number(rounds);
     text(b" round");
-    if n != 1 {
+    if rounds != 1 {
         byte(b's');
     }
 }
 
-// The answer to a call.
-fn answer(call: u8, answer: Word) {
-    if at(&answer, 63) != 0 {
-        refusal(answer);
-    } else if call == b'n' || call == b'c' {
-        word(answer);
-    } else if call == b'p' {
-        pairs(answer);
-    } else if call == b's' {
-        slots(answer);
-    } else {
-        verdict(call, at(&answer, 0));
-        rounds(call, at(&answer, 1));
+fn answer(answer: &Answer) {
+    match answer {
+        Answer::Conflict(yes) => verdict(*yes, b" in conflict", b" not in conflict"),
+        Answer::Form(told) => form(told),
+        Answer::Pairs(told) => pairs(told),
+        Answer::Slots(told) => slots(told),
+        Answer::InOrder(yes) => verdict(*yes, b" yes", b" no"),
+        Answer::Equal(yes) => verdict(*yes, b" equal", b" not equal"),
+        Answer::Joined(rounds) => loops(b" joined", *rounds),
+        Answer::Apart(rounds) => loops(b" apart", *rounds),
+        Answer::Astray(rounds) => loops(b" joined, but the lead-in is none", *rounds),
+        Answer::NoFault => text(b" no fault"),
+        Answer::LeadIn(yes) => verdict(*yes, b" a lead-in", b" no lead-in"),
     }
 }
 
-fn line(name: &[u8], call: u8, ours: Word, theirs: Word) {
-    text(name);
-    byte(b':');
-    answer(call, ours);
-    text(b" |");
-    answer(call, theirs);
-    byte(b'\n');
+fn told(told: &Told) {
+    match &told.answer {
+        Ok(given) => answer(given),
+        Err(refused) => refusal(*refused),
+    }
+    if !told.kept {
+        text(b", but a number to be kept has changed");
+    }
 }
 
 // Two answers to a call, side by side behind the name of the case, if it has one; are they the same.
-pub fn answers(name: &[u8], call: u8, ours: Word, theirs: Word) -> bool {
-    if name.len() != 0 {
-        line(name, call, ours, theirs);
+pub fn answers(name: &[u8], ours: &Told, theirs: &Told) -> bool {
+    if !name.is_empty() {
+        text(name);
+        byte(b':');
+        told(ours);
+        text(b" |");
+        told(theirs);
+        byte(b'\n');
     }
-    same(ours, theirs)
+    ours == theirs
 }
 
 // How many of so many agree.
@@ -188,4 +141,17 @@ pub fn count(agree: usize, of: usize, what: &[u8]) {
     text(b" of ");
     number(of);
     text(what);
+}
+
+// How many of so many cases agree, of which each is put by its number.
+pub fn every<F: FnMut(usize) -> bool>(of: usize, mut put: F, what: &[u8])
+    requires { F.IsAlwaysCallable put }
+{
+    let mut agree: usize = 0;
+    for i in 0..of {
+        if put(i) {
+            agree += 1;
+        }
+    }
+    count(agree, of, what);
 }

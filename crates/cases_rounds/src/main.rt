@@ -5,31 +5,20 @@
 
 #![tactic(auto)]
 
-ghost use Rattle.std.specs.Prelude.{◌≤◌, ◌≡◌, length};
+ghost use Rattle.std.specs.Prelude.{◌≤◌};
 
 use spec::{Loops, Refusal};
 
 // Room for the largest catalogue of the first edition, for some that are too large, and for some of the second edition.
-fn catalogue_area() -> [u8; 1024]
-    ensures { 1024 ≡ length result }
-{
-    [0; 1024]
-}
+const CATALOGUE: usize = 1024;
 
 // Room for the longest plan, and for some that are too long.
-fn plan_area() -> [u8; 1100]
-    ensures { 1100 ≡ length result }
-{
-    [0; 1100]
-}
+const PLAN: usize = 1100;
 
 // Room for every lead-in: 24 × 2,048 bytes.
-fn lead_in_area() -> [u8; 49152]
-    ensures { 49152 ≡ length result }
-{
-    [0; 49152]
-}
+const LEAD_IN: usize = 49152;
 
+// Not cases_report's: this program takes the library alone, with no solver below it.
 fn text(bytes: &[u8]) {
     io::write_all(1, bytes);
 }
@@ -41,52 +30,48 @@ fn number(n: usize) {
 }
 
 fn refused(refusal: Refusal) {
-    let reason = refusal.reason;
     text(b"refused");
-    number(call_codes::number(reason) as usize);
+    number(refusal.reason as usize);
     number(refusal.plan as usize);
     number(refusal.place);
 }
 
-// The line of an answer.
-fn line(answer: Loops) {
-    match answer {
-        Loops::Joined { length, rounds } => {
+fn told(loops: Loops) {
+    match loops.lead_in {
+        Some(length) => {
             text(b"joined");
             number(length);
-            number(rounds);
         }
-        Loops::Apart { rounds } => {
-            text(b"apart");
-            number(rounds);
-        }
-        Loops::Refused(refusal) => refused(refusal),
+        None => text(b"apart"),
+    }
+    number(loops.rounds);
+}
+
+// Puts a call to the library, and prints the line of its answer.
+fn put(catalogue: &[u8], v: &[u8], w: &[u8]) {
+    let mut area = [0u8; LEAD_IN];
+    match busplan::loops(catalogue, v, w, &mut area) {
+        Ok(loops) => told(loops),
+        Err(refusal) => refused(refusal),
     }
     text(b"\n");
 }
 
-// Puts a call to the library.
-fn put(catalogue: &[u8], v: &[u8], w: &[u8]) {
-    let mut area = lead_in_area();
-    line(busplan::loops(catalogue, v, w, &mut area));
-}
-
 // Reads as many bytes as there is room for; were there so many.
 fn filled(bytes: &mut [u8]) -> bool {
-    let n = io::read_full(0, bytes);
-    n == bytes.len()
+    io::read_full(0, bytes) == bytes.len()
 }
 
 // Reads the bytes of a call, of these sizes, and puts it; were there so many.
 fn read(c: usize, n: usize, m: usize) -> bool
-    requires { (c ≤ 1024) × (n ≤ 1100) × (m ≤ 1100) }
+    requires { (c ≤ CATALOGUE) × (n ≤ PLAN) × (m ≤ PLAN) }
 {
-    let mut c_area = catalogue_area();
-    let mut v_area = plan_area();
-    let mut w_area = plan_area();
-    let catalogue = &mut c_area[0..c];
-    let v = &mut v_area[0..n];
-    let w = &mut w_area[0..m];
+    let mut c_area = [0u8; CATALOGUE];
+    let mut v_area = [0u8; PLAN];
+    let mut w_area = [0u8; PLAN];
+    let catalogue = &mut c_area[..c];
+    let v = &mut v_area[..n];
+    let w = &mut w_area[..m];
     if filled(catalogue) && filled(v) && filled(w) {
         put(catalogue, v, w);
         return true;
@@ -95,34 +80,25 @@ fn read(c: usize, n: usize, m: usize) -> bool
 }
 
 fn size(low: u8, high: u8) -> usize {
-    low as usize + 256 * (high as usize)
+    u16::from_le_bytes([low, high]) as usize
 }
 
 // Reads a call and puts it; was there one.
 fn next() -> bool {
     let mut head = [0u8; 6];
-    if io::read_full(0, &mut head) != 6 {
+    if !filled(&mut head) {
         return false;
     }
-    let c = size(head[0], head[1]);
-    let n = size(head[2], head[3]);
-    let m = size(head[4], head[5]);
-    if 1024 < c {
-        return false;
-    }
-    if 1100 < n {
-        return false;
-    }
-    if 1100 < m {
-        return false;
-    }
-    read(c, n, m)
+    let [c0, c1, n0, n1, m0, m1] = head;
+    let (c, n, m) = (size(c0, c1), size(n0, n1), size(m0, m1));
+    c <= CATALOGUE && n <= PLAN && m <= PLAN && read(c, n, m)
 }
 
 // Every call, of a thousand million at most.
 fn main() {
-    let mut left: usize = 1000000000;
-    while 0 < left && next() {
-        left -= 1;
+    for _call in 0..1000000000 {
+        if !next() {
+            break;
+        }
     }
 }

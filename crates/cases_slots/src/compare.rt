@@ -1,91 +1,71 @@
 // What the library says of a plan, beside what the solver says.
 
-ghost use Rattle.std.specs.Prelude.{◌<◌, ◌≤◌};
+ghost use Rattle.std.specs.Prelude.{◌≤◌};
 
-use cases_report::{
-    Bytes, Numbers, area, bytes_kept, in_order, kept, letters, preceded, refused, same_numbers,
-    second_area, verdict,
-};
+use cases_report::{KEPT_BYTE, KEPT_NUMBER, Numbers, kept, letters, refused};
 use cases_solver::{
-    Arrangements, all_stay_before, arrange, at, normal_form, refusal, refusal_of_slots, same,
-    unswapped,
+    Arrangements, Refusal, all_stay_before, arrangements, check_slots, in_order, normal_form,
 };
 use spec::Slots;
 
-// The number of letters in the normal form of a plan.
-pub fn length(c: &[u8], plan: &[u8]) -> usize
-    ensures { result < 256 }
-{
-    at(&normal_form(c, plan), 0) as usize
-}
-
-// Is this what the solver says of the normal form and its slots, with nothing else changed in the areas.
-fn right(
-    c: &[u8],
-    plan: &[u8],
-    length: usize,
-    in_use: usize,
-    area: &Bytes,
-    second: &Numbers,
-) -> bool {
-    let mut own = second_area();
+// Is this what the solver says of the normal form and its slots, with nothing else changed in the slot area.
+fn right(c: &[u8], plan: &[u8], told: Slots, area: &[u8], second: &Numbers) -> bool {
+    let mut own = [KEPT_NUMBER; 1100];
     let n = cases_solver::slots(c, plan, &mut own);
-    n == in_use
-        && same_numbers(&own, second)
-        && same(letters(area, length), normal_form(c, plan))
-        && bytes_kept(area, length)
+    n == told.in_use && own == *second && letters(area, told.length) == normal_form(c, plan)
 }
 
 // Do library and solver agree on the slots of a plan, with areas of so many bytes and numbers.
 pub fn slots_agree(c: &[u8], plan: &[u8], bytes: usize, numbers: usize) -> bool
     requires { (bytes ≤ 1100) × (numbers ≤ 1100) }
 {
-    let mut first = area();
-    let mut second = second_area();
-    let answer = busplan::slots(c, plan, &mut first[0..bytes], &mut second[0..numbers]);
-    let theirs = refusal_of_slots(c, plan, bytes, numbers);
+    let mut first = [KEPT_BYTE; 1100];
+    let mut second = [KEPT_NUMBER; 1100];
+    let answer = busplan::slots(c, plan, &mut first[..bytes], &mut second[..numbers]);
+    let theirs = check_slots(c, plan, bytes, numbers);
     match answer {
-        Slots::Numbered { length, in_use } => {
-            at(&theirs, 63) == 0 && right(c, plan, length, in_use, &first, &second)
+        Ok(told) => {
+            theirs.is_ok()
+                && right(c, plan, told, &first, &second)
+                && kept(&first, told.length, &KEPT_BYTE)
         }
-        Slots::Refused(refusal) => {
-            same(refused(refusal), theirs) && kept(&second, 0) && bytes_kept(&first, 0)
+        Err(refusal) => {
+            theirs == Err(refused(refusal))
+                && kept(&second, 0, &KEPT_NUMBER)
+                && kept(&first, 0, &KEPT_BYTE)
         }
     }
 }
 
 // Do they agree on a list of places, whatever it is.
 pub fn list_agrees(c: &[u8], plan: &[u8], places: &[u16]) -> bool {
-    same(
-        preceded(busplan::precedence(c, plan, places)),
-        in_order(c, plan, places),
-    )
+    busplan::precedence(c, plan, places).map_err(refused) == in_order(c, plan, places)
 }
 
-// Do they agree on places i and j of a normal form that has so many arrangements.
-fn pair_agrees(c: &[u8], plan: &[u8], rows: &Arrangements, n: usize, i: usize, j: usize) -> bool
-    requires { (i < 6) × (j < 6) }
-{
-    let places = [i as u16, j as u16];
+// Do they agree on places i and j of a normal form that has these arrangements.
+fn pair_agrees(c: &[u8], plan: &[u8], found: &Arrangements, i: u16, j: u16) -> bool {
+    let places = [i, j];
     let theirs = if i == j {
-        refusal(16, 0, 0)
+        Err(Refusal {
+            number: 16,
+            plan: 0,
+            place: 0,
+        })
     } else {
-        verdict(all_stay_before(rows, n, &places) as u8)
+        Ok(all_stay_before(found, &places))
     };
-    same(preceded(busplan::precedence(c, plan, &places)), theirs)
+    busplan::precedence(c, plan, &places).map_err(refused) == theirs
 }
 
 // Do they agree on every two places of the normal form of a plan, of at most 6 letters.
 pub fn pairs_agree(c: &[u8], plan: &[u8]) -> bool {
-    let mut rows = unswapped();
-    let n = arrange(c, plan, &mut rows);
-    let letters = length(c, plan);
-    let mut t: usize = 0;
-    while t < 36 {
-        if t / 6 < letters && t % 6 < letters && !pair_agrees(c, plan, &rows, n, t / 6, t % 6) {
+    let found = arrangements(c, plan);
+    let letters = normal_form(c, plan).length as u16;
+    for t in 0..36 {
+        let (i, j) = (t / 6, t % 6);
+        if i < letters && j < letters && !pair_agrees(c, plan, &found, i, j) {
             return false;
         }
-        t += 1;
     }
     true
 }

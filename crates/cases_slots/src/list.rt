@@ -1,69 +1,55 @@
-// Lists of places at random, for a normal form of so many letters.
+// Lists of places at random, for a normal form of so many letters. That a list may be wrong is a property of it, which
+// its end and its size look at, as `second` tells of a place where it stands in its pair: neither picks a step.
 
-ghost use Rattle.std.specs.Prelude.{◌≡◌, ◌<◌, ◌≤◌, length};
+ghost use Rattle.std.specs.Prelude.{◌<◌, ◌≤◌};
 
-use cases_random::draw;
-
-pub type List = [u16; 8];
-
-pub fn blank_list() -> List
-    ensures { 8 ≡ length result }
-{
-    [0; 8]
-}
+use cases_random::Random;
 
 // The places that are drawn are below this: those of the letters, and if the list may be wrong now and then others.
-fn end(state: &mut u32, letters: usize, wrong: bool) -> usize
+fn end(random: &mut Random, letters: usize, wrong: bool) -> usize
     requires { letters < 256 }
     ensures { (0 < result) × (result ≤ 65536) }
 {
-    let kind = draw(state, 4);
-    if wrong && kind == 0 {
-        return 65536;
+    match random.draw(4) {
+        0 if wrong => 65536,
+        1 if wrong => letters + 1,
+        _ => letters.max(1),
     }
-    if wrong && kind == 1 {
-        return letters + 1;
-    }
-    if letters == 0 {
-        return 1;
-    }
-    letters
 }
 
 // The size of a list; one that may be wrong may be odd.
-fn size(state: &mut u32, wrong: bool) -> usize
+fn size(random: &mut Random, wrong: bool) -> usize
     ensures { result ≤ 8 }
 {
     if wrong {
-        return draw(state, 8);
+        random.draw(8)
+    } else {
+        2 * random.draw(4)
     }
-    2 * draw(state, 4)
 }
 
 // A place; the second of a pair is drawn twice, and the later of the two is taken.
-fn place(state: &mut u32, end: usize, second: bool) -> usize
+fn place(random: &mut Random, end: usize, second: bool) -> usize
     requires { (0 < end) × (end ≤ 65536) }
     ensures { result < 65536 }
 {
-    let p = draw(state, end);
-    if !second {
-        return p;
-    }
-    let q = draw(state, end);
-    if p < q { q } else { p }
+    let p = random.draw(end);
+    if second { p.max(random.draw(end)) } else { p }
 }
 
-// Writes a list, and gives its size.
-pub fn fill_list(state: &mut u32, list: &mut [u16], letters: usize, wrong: bool) -> usize
+// A list of places at random, at the start of this room.
+pub fn random_list<'a>(
+    random: &mut Random,
+    room: &'a mut [u16; 8],
+    letters: usize,
+    wrong: bool,
+) -> &'a [u16]
     requires { letters < 256 }
-    ensures { result ≤ 8 }
 {
-    let end = end(state, letters, wrong);
-    let n = size(state, wrong);
-    let mut i: usize = 0;
-    while i < n && i < list.len() {
-        list[i] = place(state, end, i % 2 == 1) as u16;
-        i += 1;
+    let end = end(random, letters, wrong);
+    let n = size(random, wrong);
+    for i in 0..n {
+        room[i] = place(random, end, i % 2 == 1) as u16;
     }
-    n
+    &room[..n]
 }

@@ -1,129 +1,71 @@
 // Arrangements: all orders of the letters of a normal form, of at most 6, that swaps of independent neighbours lead to.
 // The letters have numbers from 0, in the order of the normal form, and keep them: equal letters are told apart.
 
-ghost use Rattle.std.specs.Prelude.{◌<◌, ◌≤◌};
+ghost use Rattle.std.specs.Prelude.{◌<◌};
 
 use crate::catalogue::tied;
 use crate::form::normal_form;
-use crate::word::{at, number_at};
+use crate::found::Found;
+use crate::refusals::{Refusal, check_precedence};
+use crate::word::{Word, at};
 
 // The place of each letter.
 type Arrangement = [u8; 6];
 
-// The arrangements found; the normal form itself comes first and also fills the rows that are left.
-pub type Arrangements = [[u8; 6]; 720];
-
-pub fn unswapped() -> Arrangements {
-    let first = [0, 1, 2, 3, 4, 5];
-    [first; 720]
-}
-
-fn same_places(x: Arrangement, y: Arrangement) -> bool {
-    x[0] == y[0] && x[1] == y[1] && x[2] == y[2] && x[3] == y[3] && x[4] == y[4] && x[5] == y[5]
-}
-
-// Is x in one of the first rows.
-fn known(rows: &Arrangements, count: usize, x: Arrangement) -> bool {
-    let mut i: usize = 0;
-    while i < 720 && i < count {
-        if same_places(rows[i], x) {
-            return true;
-        }
-        i += 1;
-    }
-    false
-}
+pub type Arrangements = Found<[u8; 6], 720>;
 
 // Are there letters number a and b, and are they independent.
-fn independent(c: &[u8], word: &[u8], a: usize, b: usize) -> bool
-    requires { (a < 6) × (b < 6) }
-{
-    let x = at(word, a + 1);
-    let y = at(word, b + 1);
+fn independent(c: &[u8], word: &Word, a: usize, b: usize) -> bool {
+    let x = at(word, a);
+    let y = at(word, b);
     x != 0 && y != 0 && !tied(c, x, y)
 }
 
-// Does letter b stand right behind letter a.
-fn neighbours(x: Arrangement, a: usize, b: usize) -> bool {
-    at(&x, a) as usize + 1 == at(&x, b) as usize
-}
-
-// The arrangement with letters a and b swapped.
-fn swapped(x: Arrangement, a: usize, b: usize) -> Arrangement
+// Adds an arrangement with letters a and b swapped, if they are independent neighbours there.
+fn swap(c: &[u8], word: &Word, found: &mut Arrangements, x: Arrangement, a: usize, b: usize)
     requires { (a < 6) × (b < 6) }
 {
-    let mut y = x;
-    y[a] = x[b];
-    y[b] = x[a];
-    y
+    if usize::from(x[a]) + 1 == usize::from(x[b]) && independent(c, word, a, b) {
+        let mut y = x;
+        y.swap(a, b);
+        found.add(y);
+    }
 }
 
-// Adds row i with letters a and b swapped, if they are independent neighbours there and it is new; gives the number of
-// rows.
-fn grow(
-    c: &[u8],
-    word: &[u8],
-    rows: &mut Arrangements,
-    count: usize,
-    i: usize,
-    a: usize,
-    b: usize,
-) -> usize
-    requires i_bound { (i < 720) × (a < 6) × (b < 6) }
-    requires count_bound { count ≤ 720 }
-    ensures { result ≤ 720 }
-{
-    let x = rows[i];
-    if count == 720 || !neighbours(x, a, b) || !independent(c, word, a, b) {
-        return count;
+// Adds all that one swap leads to.
+fn grow(c: &[u8], word: &Word, found: &mut Arrangements, x: Arrangement) {
+    for t in 0..36 {
+        swap(c, word, found, x, t / 6, t % 6);
     }
-    let y = swapped(x, a, b);
-    if known(rows, count, y) {
-        return count;
-    }
-    rows[count] = y;
-    count + 1
 }
 
-// Adds all that swaps lead to from the first row, for the normal form of a plan; gives the number of rows.
-pub fn arrange(c: &[u8], plan: &[u8], rows: &mut Arrangements) -> usize {
-    let word = normal_form(c, plan);
-    let mut count: usize = 1;
-    let mut t: usize = 0;
-    while t < 25920 && t / 36 < count {
-        count = grow(c, &word, rows, count, t / 36, t / 6 % 6, t % 6);
-        t += 1;
+// All that swaps lead to from the normal form of a plan.
+pub fn arrangements(c: &[u8], plan: &[u8]) -> Arrangements {
+    let form = normal_form(c, plan);
+    let mut found = Found::new([0, 1, 2, 3, 4, 5]);
+    for i in 0..720 {
+        let Some(x) = found.items().get(i).copied() else {
+            break;
+        };
+        grow(c, &form.letters, &mut found, x);
     }
-    count
+    found
 }
 
-// Does letter i stand before letter j.
-fn before(x: Arrangement, i: usize, j: usize) -> bool {
-    at(&x, i) < at(&x, j)
-}
-
-// The same in each of the first rows.
-fn stays_before(rows: &Arrangements, count: usize, i: usize, j: usize) -> bool {
-    let mut k: usize = 0;
-    while k < 720 && k < count {
-        if !before(rows[k], i, j) {
-            return false;
-        }
-        k += 1;
-    }
-    true
+// Does letter i stand before letter j in all of them.
+fn stays_before(found: &Arrangements, i: u16, j: u16) -> bool {
+    let mut all = found.items().iter();
+    all.all(|x| at(x, usize::from(i)) < at(x, usize::from(j)))
 }
 
 // The same for all pairs of a list, each of the numbers of two letters.
-pub fn all_stay_before(rows: &Arrangements, count: usize, pairs: &[u16]) -> bool {
-    let mut k: usize = 0;
-    while k < pairs.len() / 2 {
-        let i = number_at(pairs, 2 * k) as usize;
-        let j = number_at(pairs, 2 * k + 1) as usize;
-        if !stays_before(rows, count, i, j) {
-            return false;
-        }
-        k += 1;
-    }
-    true
+pub fn all_stay_before(found: &Arrangements, places: &[u16]) -> bool {
+    let (pairs, _) = places.as_chunks::<2>();
+    pairs.iter().all(|[i, j]| stays_before(found, *i, *j))
+}
+
+// The answer to a precedence check, if the normal form has at most 6 letters.
+pub fn in_order(c: &[u8], plan: &[u8], places: &[u16]) -> Result<bool, Refusal> {
+    check_precedence(c, plan, places)?;
+    Ok(all_stay_before(&arrangements(c, plan), places))
 }

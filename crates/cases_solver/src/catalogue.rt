@@ -21,13 +21,10 @@ pub fn index(c: &[u8], k: usize) -> usize
     ensures { result < 65536 }
 {
     let low = at(c, k) as usize;
-    if !is_second(c) {
+    if !is_second(c) || c.len() <= k {
         return low;
     }
-    if c.len() <= k {
-        return low;
-    }
-    low + 256 * (at(c, k + 1) as usize)
+    low + 256 * at(c, k + 1) as usize
 }
 
 // R.
@@ -40,9 +37,10 @@ pub fn records(c: &[u8]) -> usize
 // The place of the head of a command.
 fn head(c: &[u8], command: u8) -> usize {
     if is_second(c) {
-        return 1 + 2 * (command as usize);
+        1 + 2 * command as usize
+    } else {
+        1 + command as usize
     }
-    1 + command as usize
 }
 
 // The place of a record.
@@ -51,26 +49,32 @@ fn record(c: &[u8], index: usize) -> usize
     ensures { result < 200000 }
 {
     if is_second(c) {
-        return 2 * commands(c) + 3 * index;
+        2 * commands(c) + 3 * index
+    } else {
+        commands(c) + 2 * index
     }
-    commands(c) + 2 * index
 }
 
-// Follows the chain of a head. Gives the record at which it stops: one of the command whose head is the goal, or 0 at
-// the chain's end, or any after 1,025 of them.
-pub fn walk(c: &[u8], start: usize, goal: usize) -> usize {
+// Follows the chain of a head, for 1,025 records at most. Is one of them of the command whose head is the goal, or is
+// the chain longer.
+pub fn walk(c: &[u8], start: usize, goal: Option<usize>) -> bool {
     let mut j = index(c, start);
-    let mut turn: usize = 0;
-    while turn < 1025 && j != 0 && head(c, at(c, record(c, j))) != goal {
+    for _turn in 0..1025 {
+        if j == 0 {
+            return false;
+        }
+        if goal == Some(head(c, at(c, record(c, j)))) {
+            return true;
+        }
         j = index(c, record(c, j) + 1);
-        turn += 1;
     }
-    j
+    j != 0
 }
 
 // Must two letters keep their order.
 pub fn tied(c: &[u8], a: u8, b: u8) -> bool {
-    let j = head(c, a % 128);
-    let k = head(c, b % 128);
-    j != 1 && k != 1 && (j == k || walk(c, j, k) != 0 || walk(c, k, j) != 0)
+    let (a, b) = (a % 128, b % 128);
+    let j = head(c, a);
+    let k = head(c, b);
+    a != 0 && b != 0 && (a == b || walk(c, j, Some(k)) || walk(c, k, Some(j)))
 }

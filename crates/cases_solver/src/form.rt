@@ -1,40 +1,44 @@
 // Normal forms: pairs of a letter and its undo are taken off, then the smallest letter that can come first is read off,
 // again and again.
 
-ghost use Rattle.std.specs.Prelude.{◌≤◌};
+ghost use Rattle.std.specs.Prelude.{◌<◌, ◌≤◌, IfSome};
 
 use crate::catalogue::{commands, tied};
-use crate::word::{Word, at, blank, undo, with};
+use crate::word::{Word, undo};
 
-// The first place whose letter is tied to a, or 64.
-pub fn first_tied(c: &[u8], word: Word, a: u8) -> usize {
-    let mut i: usize = 0;
-    while i < 64 && !tied(c, a, at(&word, i)) {
-        i += 1;
-    }
-    i
+// A normal form of at most 62 letters, which stand at the start of the word.
+#[derive(Clone, Copy, PartialEq, Eq)]
+pub struct Form {
+    pub length: usize,
+    pub letters: Word,
 }
 
-// A word with the letter a before it, at place k; a goes off with its undo, if that can come first.
-fn led_by(c: &[u8], a: u8, k: usize, word: Word) -> Word {
-    let i = first_tied(c, word, a);
-    if at(&word, i) == undo(a) {
-        with(word, i, 0)
-    } else {
-        with(word, k, a)
+// The first place whose letter is tied to a, if there is one.
+fn first_tied(c: &[u8], word: &Word, a: u8) -> Option<usize>
+    ensures { IfSome result (λ i. i < 64) }
+{
+    word.iter().position(|b| tied(c, a, *b))
+}
+
+// Puts the letter a before a word, at place k; a goes off with its undo, if that can come first.
+fn lead(c: &[u8], word: &mut Word, a: u8, k: usize)
+    requires { k < 64 }
+{
+    match first_tied(c, word, a) {
+        Some(i) if word[i] == undo(a) => word[i] = 0,
+        _ => word[k] = a,
     }
 }
 
 // The letters of a plan, less the pairs that go off, read from the last to the first.
 fn reduced(c: &[u8], plan: &[u8]) -> Word {
-    let mut word = blank();
-    let mut k: usize = 64;
-    let mut i = plan.len();
-    while 0 < i && 0 < k {
-        i -= 1;
-        k -= (at(plan, i) != 0) as usize;
-        let longer = led_by(c, at(plan, i), k, word);
-        word = longer;
+    let mut word = [0; 64];
+    let mut letters = plan.iter().rev().filter(|a| **a != 0);
+    for k in (0..64).rev() {
+        let Some(a) = letters.next() else {
+            break;
+        };
+        lead(c, &mut word, *a, k);
     }
     word
 }
@@ -51,34 +55,36 @@ pub fn numbered(n: usize) -> u8 {
     (n / 2 % 128 + n % 2 * 128) as u8
 }
 
-// The smallest letter that can come first, or 0.
-fn first(c: &[u8], word: Word) -> u8 {
-    let end = letters(c);
-    let mut n: usize = 2;
-    while n < end {
+// The place of the smallest letter that can come first, if there is one.
+fn first(c: &[u8], word: &Word) -> Option<usize>
+    ensures { IfSome result (λ i. i < 64) }
+{
+    for n in 2..letters(c) {
         let a = numbered(n);
-        let i = first_tied(c, word, a);
-        if at(&word, i) == a {
-            return a;
+        if let Some(i) = first_tied(c, word, a)
+            && word[i] == a
+        {
+            return Some(i);
         }
-        n += 1;
     }
-    0
+    None
 }
 
-// The normal form of a plan, behind its length.
-pub fn normal_form(c: &[u8], plan: &[u8]) -> Word {
+pub fn normal_form(c: &[u8], plan: &[u8]) -> Form
+    ensures { result.length ≤ 62 }
+{
     let mut rest = reduced(c, plan);
-    let mut read = blank();
-    let mut k: u8 = 0;
-    let mut a = first(c, rest);
-    while k < 62 && a != 0 {
-        k += 1;
-        let more = with(read, k as usize, a);
-        read = more;
-        let less = with(rest, first_tied(c, rest, a), 0);
-        rest = less;
-        a = first(c, rest);
+    let mut form = Form {
+        length: 0,
+        letters: [0; 64],
+    };
+    for k in 0..62 {
+        let Some(i) = first(c, &rest) else {
+            break;
+        };
+        form.letters[k] = rest[i];
+        form.length = k + 1;
+        rest[i] = 0;
     }
-    with(read, 0, k)
+    form
 }

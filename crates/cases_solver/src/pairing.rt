@@ -4,21 +4,7 @@
 ghost use Rattle.std.specs.Prelude.{◌+◌, ◌<◌, ◌≤◌};
 
 use crate::catalogue::tied;
-use crate::word::{at, undo};
-
-// The place before i of the newest letter left that is tied to a, or i if there is none.
-fn newest_tied(c: &[u8], left: &[u8], a: u8, i: usize) -> usize
-    ensures { result ≤ i }
-{
-    let mut j = i;
-    while 0 < j {
-        j -= 1;
-        if tied(c, a, at(left, j)) {
-            return j;
-        }
-    }
-    i
-}
+use crate::word::undo;
 
 // Writes a place or a slot as number k, if there is room for it.
 pub fn write(numbers: &mut [u16], k: usize, number: usize)
@@ -36,18 +22,18 @@ fn read(c: &[u8], left: &mut [u8; 1024], a: u8, i: usize, numbers: &mut [u16], n
     requires n_le_i { n ≤ i }
     ensures { result ≤ i + 1 }
 {
-    if a == 0 {
-        return n;
+    match left[..i].iter().rposition(|b| tied(c, a, *b)) {
+        Some(j) if left[j] == undo(a) => {
+            left[j] = 0;
+            write(numbers, 2 * n, j);
+            write(numbers, 2 * n + 1, i);
+            n + 1
+        }
+        _ => {
+            left[i] = a;
+            n
+        }
     }
-    let j = newest_tied(c, left, a, i);
-    if left[j] == undo(a) {
-        left[j] = 0;
-        write(numbers, 2 * n, j);
-        write(numbers, 2 * n + 1, i);
-        return n + 1;
-    }
-    left[i] = a;
-    n
 }
 
 // The pairs of a plan of at most 1,024 bytes, at the start of numbers: for each, in the order found, the place of the
@@ -55,10 +41,8 @@ fn read(c: &[u8], left: &mut [u8; 1024], a: u8, i: usize, numbers: &mut [u16], n
 pub fn pairs(c: &[u8], plan: &[u8], numbers: &mut [u16]) -> usize {
     let mut left = [0u8; 1024];
     let mut n: usize = 0;
-    let mut i: usize = 0;
-    while i < 1024 && i < plan.len() {
-        n = read(c, &mut left, at(plan, i), i, numbers, n);
-        i += 1;
+    for i in 0..plan.len().min(1024) {
+        n = read(c, &mut left, plan[i], i, numbers, n);
     }
     n
 }

@@ -1,28 +1,28 @@
 // Every plan of four bytes under K, and every two plans of two bytes.
 
-ghost use Rattle.std.specs.Prelude.{◌<◌};
+use crate::{Call, Part, Question};
 
-use crate::line::read;
-use crate::{Question, V, pushed, with};
-
-// Byte number d of 0, 1, 2, 3, 4, −1, −2, −3, −4.
-fn byte(d: usize) -> u8
-    requires { d < 9 }
-{
-    if d < 5 { d as u8 } else { 124 + d as u8 }
-}
+// 0, 1, 2, 3, 4, −1, −2, −3 and −4.
+const BYTES: [u8; 9] = [0, 1, 2, 3, 4, 129, 130, 131, 132];
 
 // Two more bytes in a part, those of number p.
-fn two(q: Question, part: usize, p: usize) -> Question
-    requires { part < 7 }
-{
-    pushed(pushed(q, part, byte(p % 9)), part, byte(p / 9 % 9))
+fn push_two(part: &mut Part, p: usize) {
+    part.push(BYTES[p % 9]);
+    part.push(BYTES[p / 9 % 9]);
 }
 
-// A call under K on the four bytes of number p: two in v, and two more in v or w.
-pub fn small(letter: u8, p: usize, part: usize) -> Question
-    requires { part < 7 }
-{
-    let under = with(read(b"\n", 0), 20, letter);
-    two(two(under, V, p), part, p / 81)
+// A call on the plan of four bytes that has number p.
+pub fn plan_of_four(call: Call, p: usize) -> Question {
+    let mut q = Question::under_k(call);
+    push_two(&mut q.v, p);
+    push_two(&mut q.v, p / 81);
+    q
+}
+
+// A call on the plans v and w of two bytes each that have number p.
+pub fn plans_of_two(call: Call, p: usize) -> Question {
+    let mut q = Question::under_k(call);
+    push_two(&mut q.v, p);
+    push_two(&mut q.w, p / 81);
+    q
 }

@@ -1,99 +1,64 @@
-// The questions of the bench program: the lines of its table, and every small plan under K. A question is 4,961 bytes.
-// It has seven parts: w, u, the area and the second area (of which the sizes count) and the name of a case, of at most
-// 128 bytes each, the catalogue, of at most 3,200, and v, of at most 1,100. Before them stand the sizes of the parts,
-// two bytes each, low byte first, and at place 20 the letter of the call: r (reading the catalogue: whether the two
-// commands of v conflict), n (normal form), p (its pairs), s (its slots), o (precedence: whether its letters stay in
-// the order of the places w), c (core), e (equal), l (loops), f (fault) or j (whether u leads from v to w).
+// The questions of the bench program: the lines of its table, and every small plan under K.
 
 #![tactic(auto)]
 
-ghost use Rattle.std.specs.Prelude.{◌<◌};
-
-use cases_solver::at;
-
 mod every;
 mod line;
+mod part;
 mod second;
 
-pub use every::small;
-pub use line::{end, read};
+pub use every::{plan_of_four, plans_of_two};
+pub use line::read;
+pub use part::Part;
 pub use second::in_second;
 
-pub type Question = [u8; 4961];
-
-pub const W: usize = 0;
-
-pub const U: usize = 1;
-
-pub const AREA: usize = 2;
-
-pub const SECOND: usize = 3;
-
-pub const NAME: usize = 4;
-
-pub const CATALOGUE: usize = 5;
-
-pub const V: usize = 6;
-
-fn blank() -> Question {
-    [0; 4961]
+// The calls; the table has the word in brackets.
+#[derive(Clone, Copy, PartialEq, Eq)]
+pub enum Call {
+    // whether the two commands of v conflict, by the catalogue as it is read (reads)
+    Conflict,
+    // the normal form of v (normal), its pairs (pairs) and its slots (slots)
+    NormalForm,
+    Pairs,
+    Slots,
+    // whether the letters of the normal form of v stay in the order of the places w (precedence)
+    Precedence,
+    // the core of v (core)
+    Core,
+    // whether v and w are equal (equal), and whether they are joined as loops (loops)
+    Equal,
+    Loops,
+    // the fault of the catalogue, v, w and u (faults)
+    Fault,
+    // whether u leads from v to w (joins)
+    LeadIn,
 }
 
-// The question with a byte at place i, if there is one.
-fn with(q: Question, i: usize, b: u8) -> Question {
-    let mut changed = q;
-    if i < 4961 {
-        changed[i] = b;
+// Of the two areas the sizes count.
+#[derive(Clone, Copy)]
+pub struct Question {
+    pub name: Part,
+    pub call: Call,
+    pub catalogue: Part,
+    pub v: Part,
+    pub w: Part,
+    pub u: Part,
+    pub area: Part,
+    pub second_area: Part,
+}
+
+impl Question {
+    // A call under K, with conflicts 1-2, 2-3, 3-4, on empty plans, in areas that are large enough for any case.
+    fn under_k(call: Call) -> Question {
+        Question {
+            name: Part::new(),
+            call,
+            catalogue: Part::of(&[4, 3, 1, 2, 3, 0, 2, 0, 3, 0, 4, 0]),
+            v: Part::new(),
+            w: Part::new(),
+            u: Part::new(),
+            area: Part::of_size(1100),
+            second_area: Part::of_size(1100),
+        }
     }
-    changed
-}
-
-pub fn call(q: &[u8]) -> u8 {
-    at(q, 20)
-}
-
-// The number of bytes in a part.
-pub fn size(q: &[u8], part: usize) -> usize
-    requires { part < 7 }
-    ensures { result < 65536 }
-{
-    at(q, 2 * part) as usize + 256 * (at(q, 2 * part + 1) as usize)
-}
-
-fn sized(q: Question, part: usize, n: usize) -> Question
-    requires { part < 7 }
-{
-    let low = with(q, 2 * part, (n % 256) as u8);
-    with(low, 2 * part + 1, (n / 256 % 256) as u8)
-}
-
-// Where a part begins.
-fn start(part: usize) -> usize
-    requires { part < 7 }
-    ensures { result < 4961 }
-{
-    if part == V {
-        return 3861;
-    }
-    21 + 128 * part
-}
-
-// One more byte in a part.
-fn pushed(q: Question, part: usize, b: u8) -> Question
-    requires { part < 7 }
-{
-    let n = size(&q, part);
-    sized(with(q, start(part) + n, b), part, n + 1)
-}
-
-// The bytes of a part.
-pub fn part(q: &[u8], part: usize) -> &[u8]
-    requires { part < 7 }
-{
-    let from = start(part);
-    let end = from + size(q, part);
-    if end <= q.len() {
-        return &q[from..end];
-    }
-    &q[..0]
 }

@@ -2,10 +2,10 @@
 
 ghost use Rattle.std.specs.Prelude.{◌<◌};
 
-use crate::{CATALOGUE, NAME, Question, part, pushed, sized};
-use cases_solver::{at, refusal_of_catalogue};
+use crate::{Part, Question};
+use cases_solver::{at, check_catalogue};
 
-// A low byte, or the high byte 0 behind it.
+// A low byte, or the high byte 0 behind it; `low` tells where the byte stands, and picks no step.
 fn half(b: u8, low: bool) -> u8 {
     if low { b } else { 0 }
 }
@@ -25,28 +25,24 @@ fn byte(c: &[u8], n: usize, i: usize) -> u8
     half(at(c, 2 + n + 2 * (k / 3) + k % 3), k % 3 != 2)
 }
 
-// The question with this catalogue written in the second edition, where it has so many bytes.
-fn rewritten(q: Question, c: &[u8], n: usize, size: usize) -> Question
-    requires { (n < 128) × (size < 3000) }
-{
-    let mut again = sized(q, CATALOGUE, 0);
-    let mut i: usize = 0;
-    while i < size {
-        let next = pushed(again, CATALOGUE, byte(c, n, i));
-        again = next;
-        i += 1;
+// A catalogue of the first edition that passes, written in the second.
+fn rewritten(c: &[u8]) -> Part {
+    let n = usize::from(at(c, 0) % 128);
+    let r = usize::from(at(c, 1));
+    let mut again = Part::new();
+    for i in 0..3 + 2 * n + 3 * r {
+        again.push(byte(c, n, i));
     }
     again
 }
 
 // The question without its name and in the second edition, if its catalogue is of the first and passes.
-pub fn in_second(q: Question) -> Question {
-    let unnamed = sized(q, NAME, 0);
-    let c = part(&q, CATALOGUE);
-    let n = at(c, 0) as usize;
-    let r = at(c, 1) as usize;
-    if n < 128 && at(&refusal_of_catalogue(c), 63) == 0 {
-        return rewritten(unnamed, c, n, 3 + 2 * n + 3 * r);
+pub fn in_second(q: &Question) -> Question {
+    let c = q.catalogue.bytes();
+    let mut again = *q;
+    again.name = Part::new();
+    if at(c, 0) < 128 && check_catalogue(c).is_ok() {
+        again.catalogue = rewritten(c);
     }
-    unnamed
+    again
 }

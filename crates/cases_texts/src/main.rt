@@ -7,103 +7,65 @@
 mod report;
 mod row;
 
-ghost use Rattle.std.specs.Prelude.{◌≤◌, ◌≡◌, length};
-ghost use Rattle.io.specs.Counts.{IsPrefixLen};
+ghost use Rattle.std.specs.Prelude.{◌≤◌};
 
-use report::{AREA, Area, KEPT};
+use cases_report::KEPT_BYTE;
+use row::{AREA, Row};
 
-// The longest table, and one byte to tell a longer one.
-fn table_area() -> [u8; 8193]
-    ensures { 8193 ≡ length result }
-{
-    [0; 8193]
-}
+// The longest table.
+const TABLE: usize = 8192;
 
-fn area() -> Area
-    ensures { 1100 ≡ length result }
-{
-    [KEPT; AREA]
-}
-
-// Room for the catalogue without conflicts that has this first byte.
-fn catalogue(first: usize) -> [u8; 257]
-    requires { first ≤ 255 }
-    ensures { 257 ≡ length result }
-{
-    let mut c = [0u8; 257];
-    c[0] = first as u8;
-    c
-}
-
-// The number of its bytes; from 128 on, the first byte is that of the second edition.
-fn size(first: usize) -> usize
-    requires { first ≤ 255 }
+// The number of bytes of the catalogue without conflicts that has this first byte; from 128 on, it is that of the
+// second edition.
+fn size(first: u8) -> usize
     ensures { result ≤ 257 }
 {
     if first < 128 {
-        return 2 + first;
+        2 + first as usize
+    } else {
+        3 + 2 * (first as usize - 128)
     }
-    3 + 2 * (first - 128)
 }
 
-// Puts a text to the library, under the catalogue with this first byte, in an area of so many bytes.
-fn put(first: usize, room: usize, text: &[u8])
-    requires { (first ≤ 255) × (room ≤ 1100) }
-{
-    let c = catalogue(first);
-    let n = size(first);
-    let mut lent = area();
-    let written = busplan::write_out(&c[0..n], text, &mut lent[0..room]);
-    let fault = busplan::text_fault(&c[0..n], text);
-    report::row(first, room, text);
-    report::answers(written, fault, &lent);
+// Puts a row to the library.
+fn put(row: &Row) {
+    let mut catalogue = [0u8; 257];
+    catalogue[0] = row.first;
+    let c = &catalogue[..size(row.first)];
+    let mut area = [KEPT_BYTE; AREA];
+    let written = busplan::write_out(c, row.text, &mut area[..row.room]);
+    let fault = busplan::text_fault(c, row.text);
+    report::row(row);
+    report::answers(written, fault, &area);
 }
 
-// Reads the row that ends before a place and puts it; was there one.
-fn put_row(table: &[u8], start: usize, end: usize) -> bool
-    requires { (start ≤ end) × (end ≤ length table.now) × (end ≤ 8192) }
-{
-    let read = row::read(table, start, end);
-    if !read.is_row {
-        return false;
+// Reads a row with its newline and puts it; was it one.
+fn put_row(line: &[u8]) -> bool {
+    match line.strip_suffix(b"\n").and_then(row::read) {
+        Some(row) => {
+            put(&row);
+            true
+        }
+        None => false,
     }
-    let from = read.from;
-    put(read.first, read.room, &table[from..end]);
-    true
 }
 
 // Every row, up to the first that is none.
-fn rows(table: &[u8])
-    requires { length table.now ≤ 8192 }
-{
-    let mut count: usize = 0;
-    let mut start: usize = 0;
-    while start < table.len() {
-        let end = row::end(table, start);
-        count += 1;
-        if !put_row(table, start, end) {
-            report::no_row(count);
-            return;
-        }
-        start = end + 1;
+fn rows(table: &[u8]) {
+    let lines = || table.split_inclusive(|b| *b == b'\n');
+    match lines().position(|line| !put_row(line)) {
+        Some(n) => report::no_row(n + 1),
+        None => report::count(lines().count()),
     }
-    report::count(count);
-}
-
-// The table, in which backslashes stand for zeros.
-fn put_table(table: &mut [u8])
-    requires { length table.old ≤ 8192 }
-{
-    row::put_zeros(table);
-    rows(table);
 }
 
 fn main() {
-    let mut table = table_area();
+    let mut table = [0u8; TABLE + 1];
     let n = io::read_full(0, &mut table);
-    if 8192 < n {
+    if TABLE < n {
         report::too_long();
         return;
     }
-    put_table(&mut table[..n]);
+    row::put_zeros(&mut table[..n]);
+    rows(&table[..n]);
 }

@@ -2,62 +2,44 @@
 
 ghost use Rattle.std.specs.Prelude.{◌≤◌};
 
-use cases_report::{byte, number, signed, text};
+use crate::row::Row;
+use cases_report::{Bytes, KEPT_BYTE, byte, kept, number, refusal, refused, signed, text};
 use cases_solver::at;
-use spec::{Fault, Refusal, Written};
+use spec::{Reason, Refusal};
 
-// The bytes lent at most.
-pub const AREA: usize = 1100;
-
-pub type Area = [u8; 1100];
-
-// A byte that no letter is.
-pub const KEPT: u8 = 77;
-
-// A byte of a text, a backslash for the byte 0.
-fn character(b: u8) {
-    if b == 0 {
-        byte(b'\\');
-        return;
-    }
-    byte(b);
-}
-
-// The first n bytes of a text.
-fn characters(bytes: &[u8], n: usize) {
-    let mut i: usize = 0;
-    while i < n {
-        character(at(bytes, i));
-        i += 1;
+// The bytes of a text, with a backslash for the byte 0.
+fn characters(bytes: &[u8]) {
+    for b in bytes {
+        byte(if *b == 0 { b'\\' } else { *b });
     }
 }
 
 // A text; a long one by its length and its first bytes.
 fn quoted(bytes: &[u8]) {
     byte(b'"');
-    if 60 < bytes.len() {
-        characters(bytes, 20);
-        text(b"..\" of ");
-        number(bytes.len());
-        text(b" bytes");
+    if bytes.len() <= 60 {
+        characters(bytes);
+        byte(b'"');
         return;
     }
-    characters(bytes, bytes.len());
-    byte(b'"');
+    characters(&bytes[..20]);
+    text(b"..\" of ");
+    number(bytes.len());
+    text(b" bytes");
 }
 
 // The row itself.
-pub fn row(first: usize, room: usize, bytes: &[u8]) {
-    number(first);
+pub fn row(row: &Row) {
+    number(row.first as usize);
     byte(b' ');
-    number(room);
+    number(row.room);
     byte(b' ');
-    quoted(bytes);
+    quoted(row.text);
     byte(b':');
 }
 
 // The number of letters of a plan of at least one, its first and its last.
-fn ends(area: &Area, n: usize)
+fn ends(area: &Bytes, n: usize)
     requires { 1 ≤ n }
 {
     byte(b' ');
@@ -68,17 +50,8 @@ fn ends(area: &Area, n: usize)
     signed(at(area, n - 1));
 }
 
-// The first letters of an area.
-fn letters(area: &Area, n: usize) {
-    let mut i: usize = 0;
-    while i < n {
-        signed(at(area, i));
-        i += 1;
-    }
-}
-
 // The plan that stands in an area; a long one by its length and its ends.
-fn plan(area: &Area, n: usize) {
+fn plan(area: &Bytes, n: usize) {
     if n == 0 {
         text(b" empty");
         return;
@@ -87,78 +60,31 @@ fn plan(area: &Area, n: usize) {
         ends(area, n);
         return;
     }
-    letters(area, n);
+    for a in area.iter().take(n) {
+        signed(*a);
+    }
 }
 
-// Have all bytes been kept but the first n.
-fn kept(area: &Area, n: usize) {
-    let mut i = n;
-    while i < AREA && at(area, i) == KEPT {
-        i += 1;
+// What the call answered that writes a text out, with all bytes of the area.
+fn written(answer: Result<usize, Refusal>, area: &Bytes) {
+    match answer {
+        Ok(n) => plan(area, n),
+        Err(found) => refusal(refused(found)),
     }
-    if i < AREA {
+    if !kept(area, answer.unwrap_or(0), &KEPT_BYTE) {
         text(b", but a byte to be kept has changed");
     }
 }
 
-fn refusal(refusal: Refusal) {
-    let reason = refusal.reason;
-    text(b" refused ");
-    number(call_codes::number(reason) as usize);
-    byte(b' ');
-    number(refusal.plan as usize);
-    byte(b' ');
-    number(refusal.place);
-}
-
-// What the call answered that writes a text out, with all bytes of the area.
-fn written(answer: Written, area: &Area) {
-    match answer {
-        Written::Length(n) => {
-            plan(area, n);
-            kept(area, n);
-        }
-        Written::Refused(found) => {
-            refusal(found);
-            kept(area, 0);
-        }
-    }
-}
-
-fn is_same(a: Refusal, b: Refusal) -> bool {
-    let first = a.reason;
-    let second = b.reason;
-    call_codes::number(first) == call_codes::number(second)
-        && a.plan == b.plan
-        && a.place == b.place
-}
-
-// Is the fault told this refusal, or nothing where an area alone was refused.
-fn explains(fault: Fault, refusal: Refusal) -> bool {
-    let reason = refusal.reason;
-    let area = call_codes::number(reason) == 9;
-    match fault {
-        Fault::Nothing => area,
-        Fault::Found(found) => !area && is_same(found, refusal),
-    }
-}
-
-// Is the fault told what the call was refused for.
-fn agrees(fault: Fault, answer: Written) -> bool {
-    match answer {
-        Written::Length(_) => match fault {
-            Fault::Nothing => true,
-            Fault::Found(_) => false,
-        },
-        Written::Refused(found) => explains(fault, found),
-    }
-}
-
 // What the call answered that writes a text out, with all bytes of the area, and that its fault was told otherwise if
-// it was.
-pub fn answers(answer: Written, fault: Fault, area: &Area) {
+// it was. Where an area alone was refused, there is no fault to tell.
+pub fn answers(answer: Result<usize, Refusal>, fault: Option<Refusal>, area: &Bytes) {
     written(answer, area);
-    if !agrees(fault, answer) {
+    if fault
+        != answer
+            .err()
+            .filter(|found| found.reason != Reason::AreaSize)
+    {
         text(b", but another fault is told");
     }
     byte(b'\n');

@@ -1,5 +1,6 @@
 -- What joining two plans asks and gives: the lead-in as a word in a row, and then its normal form in the area.
 use Rattle.std.specs.Prelude.{ℕ, ◌+◌, ◌*◌, ◌≤◌, ◌≡◌, true, false, List, ◌++◌, length, take, drop}
+use Rattle.std.specs.Prelude.{None, Some, MatchOption}
 use Rattle.theory_conjugacy.specs.Decision.{joined?}
 use Rattle.spec.specs.Catalogue.{commands}
 use Rattle.spec.specs.Letters.{letters, alphabet, normal_form}
@@ -9,7 +10,6 @@ use Rattle.spec.specs.Rounds.{loops_rounds}
 use Rattle.spec.specs.Loops.{LeadIn, lead_in_room}
 use Rattle.conjugacy_by_cores.specs.CoreAndLead.{CoreAndLead}
 use Rattle.conjugacy_of_parts.specs.declared.Outcome.{Outcome}
-use Rattle.conjugacy_of_parts.specs.declared.Outcome.TheVariants.{Joined, Apart}
 
 -- two plans that have passed their checks
 pub record Plans (c : List ℕ) (conflicts : List (List ℕ)) (v w : List ℕ) : Type 0 where
@@ -37,17 +37,18 @@ pub record WordJoined (c v w row : List ℕ) (end : ℕ) : Type 0 where
 
 -- what an outcome says of the plans and the row: such a word stands in it, or the plans are apart; and the rounds
 abbrev pub WordOutcome : List ℕ → List ℕ → List ℕ → List ℕ → Outcome → Type 0
-WordOutcome c v w row (Joined end n) = WordJoined c v w row end × (n ≡ loops_rounds c v w)
-WordOutcome c v w row (Apart n) =
-    (joined? (alphabet c) (letters v) (letters w) ≡ false) × (n ≡ loops_rounds c v w)
+WordOutcome c v w row o =
+    MatchOption o.end (joined? (alphabet c) (letters v) (letters w) ≡ false) (WordJoined c v w row)
+    × (o.rounds ≡ loops_rounds c v w)
 
 -- what an outcome says of the plans and the final area: a lead-in at the start of the area and past it the area as it
 -- was, or the area as it was; and the rounds
 pub data PlansOutcome (c v w area : List ℕ) : Outcome → List ℕ → Type 0 where
   joined : {u : List ℕ} → joined? (alphabet c) (letters v) (letters w) ≡ true → LeadIn c v w u
-      → PlansOutcome c v w area (Joined (length u) (loops_rounds c v w)) (u ++ drop (length u) area)
+      → PlansOutcome c v w area (record { end = Some (length u); rounds = loops_rounds c v w })
+      (u ++ drop (length u) area)
   apart : joined? (alphabet c) (letters v) (letters w) ≡ false
-      → PlansOutcome c v w area (Apart (loops_rounds c v w)) area
+      → PlansOutcome c v w area (record { end = None; rounds = loops_rounds c v w }) area
 
 -- plans with these cores, so much room for the word between them, and room for a lead-in in the area
 pub record FormRoom (c : List ℕ) (conflicts : List (List ℕ)) (v w core1 lead1 core2 lead2 : List ℕ) (most : ℕ)

@@ -1,5 +1,6 @@
 -- Joining two plans: what each step asks follows from the plans and the rows, and the word in the row is a lead-in.
-use Rattle.std.specs.Prelude.{ℕ, zero, suc, ◌+◌, ◌*◌, ◌≤◌, ◌≡◌, refl, List, [], ◌++◌, length, take}
+use Rattle.std.specs.Prelude.{ℕ, zero, suc, ◌+◌, ◌*◌, ◌≤◌, ◌≡◌, refl, List, [], ◌++◌, length, take, None, Some}
+use Rattle.std.proofs.lemmas.Option.{MatchOption-at_some, MatchOption-at_none}
 use Rattle.std.proofs.Common.{arith, mul-le-mul_right, mul-add, sym, ◌∙◌, ap, subst, subst₂, append_assoc, length-take}
 use Rattle.theory_words.specs.TraceLaws.{~_sym}
 use Rattle.theory_words.specs.GroupLaws.{undo_length}
@@ -19,7 +20,6 @@ use Rattle.array_row.specs.Row.{Appended}
 use Rattle.array_row.specs.RowLaws.{appended_take, appended_length}
 use Rattle.conjugacy_settled_parts.specs.PartOf.{Cyclic}
 use Rattle.conjugacy_of_parts.specs.declared.Outcome.{Outcome}
-use Rattle.conjugacy_of_parts.specs.declared.Outcome.TheVariants.{Joined, Apart}
 use Rattle.conjugacy_of_cores.specs.Pair.{Coreable, CoresJoined, cores_rounds, CoresOutcome}
 use Rattle.input_checks.specs.Passed.{Passed}
 use Rattle.conjugacy_by_cores.specs.ThroughLaws.{through, through_count}
@@ -82,11 +82,10 @@ module _ {c : List ℕ} {conflicts : List (List ℕ)} {v w x g y h : List ℕ}
         omega (arith, a.ends, j.ends, s, through_count (alphabet c) g j.word h, r)
 
   -- the outcome, where there is no lead-in
-  pub join_stop : (before : List ℕ) (at : ℕ) (after : List ℕ) {o : Outcome} {m : ℕ}
-      → CoresOutcome c x y before at after o → o ≡ Apart m → WordOutcome c v w after o
-  join_stop before at after d e =
-      let (a, b) = subst (CoresOutcome c x y before at after) e d in
-      subst (WordOutcome c v w after) (sym e) (sym (cores_joined_plans c k) ∙ a, b ∙ cores_rounds_plans c k)
+  pub join_stop : (before : List ℕ) (at : ℕ) (after : List ℕ) {o : Outcome}
+      → CoresOutcome c x y before at after o → o.end ≡ None → WordOutcome c v w after o
+  join_stop before at after (a, b) e =
+      (rw e (sym (cores_joined_plans c k) ∙ MatchOption-at_none _ _ e a), b ∙ cores_rounds_plans c k)
 
   -- the word in the row
   pub join_word : {row row' row'' row''' : List ℕ} {at end last : ℕ} → Appended row 0 g row' at → at ≤ length row
@@ -111,22 +110,22 @@ module _ {c : List ℕ} {conflicts : List (List ℕ)} {v w x g y h : List ℕ}
       }
 
 -- what the way from core to core tells
-pub cores_joined : (c x y before : List ℕ) (at : ℕ) (after : List ℕ) {o : Outcome} {end n : ℕ}
-    → CoresOutcome c x y before at after o → o ≡ Joined end n
-    → CoresJoined c x y before at after end × (n ≡ cores_rounds c x y)
-cores_joined c x y before at after d e = subst (CoresOutcome c x y before at after) e d
+pub cores_joined : (c x y before : List ℕ) (at : ℕ) (after : List ℕ) {o : Outcome} {end : ℕ}
+    → CoresOutcome c x y before at after o → o.end ≡ Some end
+    → CoresJoined c x y before at after end × (o.rounds ≡ cores_rounds c x y)
+cores_joined c x y before at after {end = end} (d, m) e = (MatchOption-at_some _ _ end e d, m)
 
 -- the word in the row put in normal form
 
-pub word_joined : (c v w row : List ℕ) {o : Outcome} {end n : ℕ} → WordOutcome c v w row o → o ≡ Joined end n
-    → WordJoined c v w row end × (n ≡ loops_rounds c v w)
-word_joined c v w row d e = subst (WordOutcome c v w row) e d
+pub word_joined : (c v w row : List ℕ) {o : Outcome} {end : ℕ} → WordOutcome c v w row o → o.end ≡ Some end
+    → WordJoined c v w row end × (o.rounds ≡ loops_rounds c v w)
+word_joined c v w row {end = end} (d, m) e = (MatchOption-at_some _ _ end e d, m)
 
-pub word_stop : (c v w row area : List ℕ) {o : Outcome} {n : ℕ} → WordOutcome c v w row o → o ≡ Apart n
+pub word_stop : (c v w row area : List ℕ) {o : Outcome} → WordOutcome c v w row o → o.end ≡ None
     → PlansOutcome c v w area o area
-word_stop c v w row area d e =
-    let (a, b) = subst (WordOutcome c v w row) e d in
-    subst (λ (o : Outcome). PlansOutcome c v w area o area) (sym (e ∙ ap Apart b)) (apart a)
+word_stop c v w row area (d, m) e =
+    subst₂ (λ s n. PlansOutcome c v w area (record { end = s; rounds = n }) area) (sym e) (sym m)
+    (apart (MatchOption-at_none _ _ e d))
 
 module _ {c : List ℕ} {conflicts : List (List ℕ)} {v w : List ℕ} (p : Plans c conflicts v w)
     {row : List ℕ} {end : ℕ} (d : WordJoined c v w row end) where
@@ -153,8 +152,8 @@ module _ {c : List ℕ} {conflicts : List (List ℕ)} {v w : List ℕ} (p : Plan
   }
 
   pub word_outcome : {area after : List ℕ} {r m : ℕ} → StartsWith (normal_form c (take end row)) area after r
-      → m ≡ loops_rounds c v w → PlansOutcome c v w area (Joined r m) after
+      → m ≡ loops_rounds c v w → PlansOutcome c v w area (record { end = Some r; rounds = m }) after
   word_outcome {area} {after} {r} {m} o e =
-      subst (λ i. PlansOutcome c v w area (Joined r i) after) (sym e)
-      (subst₂ (λ l a. PlansOutcome c v w area (Joined l (loops_rounds c v w)) a) (sym (starts_length o))
-      (sym (starts_area o)) (joined d.joined d.lead_in))
+      subst (λ i. PlansOutcome c v w area (record { end = Some r; rounds = i }) after) (sym e)
+      (subst₂ (λ l a. PlansOutcome c v w area (record { end = Some l; rounds = loops_rounds c v w }) a)
+      (sym (starts_length o)) (sym (starts_area o)) (joined d.joined d.lead_in))

@@ -11,60 +11,64 @@ use conjugacy_of_cores::join_cores;
 use conjugacy_of_parts::Outcome;
 use long_form::form;
 
+// A plan's core, and the letters taken off in front of it.
+#[derive(Clone, Copy)]
+pub struct Core<'a> {
+    pub letters: &'a [u8],
+    pub lead: &'a [u8],
+}
+
 // Whether the plans with these cores are joined, and the lead-in as a word at the start of the row, not yet in normal
 // form.
 fn lead_in_word(
-    core1: &[u8],
-    lead1: &[u8],
-    core2: &[u8],
-    lead2: &[u8],
+    one: &Core<'_>,
+    two: &Core<'_>,
     conflicts: &[[u16; 24]; 24],
     row: &mut [u8],
 ) -> Outcome
     requires { (c : List ℕ) × (v : List ℕ) × (w : List ℕ)
-        × Cores c conflicts.now v w core1.now lead1.now core2.now lead2.now
-        × (word_room c core1.now lead1.now core2.now lead2.now ≤ length row.old) }
+        × Cores c conflicts.now v w one.now.letters.now one.now.lead.now two.now.letters.now two.now.lead.now
+        × (word_room c one.now.letters.now one.now.lead.now two.now.letters.now two.now.lead.now ≤ length row.old) }
     ensures { (c v w : List ℕ)
-        → Cores c conflicts.now v w core1.now lead1.now core2.now
-        lead2.now
-        → word_room c core1.now lead1.now core2.now lead2.now
-        ≤ length row.old
+        → Cores c conflicts.now v w one.now.letters.now one.now.lead.now two.now.letters.now two.now.lead.now
+        → word_room c one.now.letters.now one.now.lead.now two.now.letters.now two.now.lead.now ≤ length row.old
         → WordOutcome c v w row.new result }
 {
-    let at = append(row, 0, lead1);
-    let way = join_cores(core1, core2, conflicts, row, at);
-    let Outcome::Joined { end, rounds } = way else {
+    let at = append(row, 0, one.lead);
+    let way = join_cores(one.letters, two.letters, conflicts, row, at);
+    let Some(end) = way.end else {
         return way;
     };
-    let last = append_undone(row, end, lead2);
-    Outcome::Joined { end: last, rounds }
+    let last = append_undone(row, end, two.lead);
+    Outcome {
+        end: Some(last),
+        rounds: way.rounds,
+    }
 }
 
 // As `lead_in_word`, with the lead-in in normal form at the start of the area. The row is worked in.
 pub fn lead_in_form(
-    core1: &[u8],
-    lead1: &[u8],
-    core2: &[u8],
-    lead2: &[u8],
+    one: &Core<'_>,
+    two: &Core<'_>,
     conflicts: &[[u16; 24]; 24],
     row: &mut [u8],
     area: &mut [u8],
 ) -> Outcome
     requires { (c : List ℕ) × (v : List ℕ) × (w : List ℕ)
-        × FormRoom c conflicts.now v w core1.now lead1.now core2.now lead2.now (length row.old)
-        area.old }
+        × FormRoom c conflicts.now v w one.now.letters.now one.now.lead.now two.now.letters.now two.now.lead.now
+        (length row.old) area.old }
     ensures { (c v w : List ℕ)
-        → FormRoom c conflicts.now v w core1.now lead1.now core2.now
-        lead2.now (length row.old) area.old
+        → FormRoom c conflicts.now v w one.now.letters.now one.now.lead.now two.now.letters.now two.now.lead.now
+        (length row.old) area.old
         → PlansOutcome c v w area.old result area.new }
 {
-    let way = lead_in_word(core1, lead1, core2, lead2, conflicts, row);
-    let Outcome::Joined { end, rounds } = way else {
+    let way = lead_in_word(one, two, conflicts, row);
+    let Some(end) = way.end else {
         return way;
     };
     let length = form(&row[..end], conflicts, area);
-    Outcome::Joined {
-        end: length,
-        rounds,
+    Outcome {
+        end: Some(length),
+        rounds: way.rounds,
     }
 }

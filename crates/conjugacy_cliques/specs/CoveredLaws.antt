@@ -25,13 +25,14 @@ pub gathered_start : (line flags : List ℕ) → Gathered line flags 0 0
 gathered_start line flags = record { none = λ e. below_none _; covered = λ f. refl }
 
 module _ {line flags : List ℕ} {all j : ℕ} (g : Gathered line flags all j) where
-  pub gathered_again : Gathered line flags (bit_or all (missing (get_or flags j 0) (get_or line j 0))) (j + 1)
-  gathered_again = record {
+  pub gathered_again : {f n i : ℕ} → f ≡ get_or flags j 0 → n ≡ get_or line j 0 → i ≡ j + 1
+      → Gathered line flags (bit_or all (missing f n)) i
+  gathered_again d e s = rw (d, e, s) (record {
     none = λ e.
         let (a, b) = or_parts all (missing (get_or flags j 0) (get_or line j 0)) e in
         below_more _ j (g.none a) b;
     covered = λ f. rw (g.covered (λ i l. f i (omega arith)), f j (omega arith));
-  }
+  })
 
   pub gathered_end : 24 ≡ j → (eqb all 0 ≡ true) ↔ Covered line flags
   gathered_end e = (

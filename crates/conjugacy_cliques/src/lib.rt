@@ -15,23 +15,10 @@ fn covers(line: &[u16; 24], flags: &[u16; 24]) -> bool
     ensures { (result ≡ true) ↔ Covered line.now flags.now }
 {
     let mut missing: u16 = 0;
-    let mut j = 0;
-    while j < 24 {
-        missing |= flags[j] & (line[j] ^ 1);
-        j += 1;
+    for (flag, met) in flags.iter().zip(line) {
+        missing |= *flag & (*met ^ 1);
     }
     missing == 0
-}
-
-// Whether command k + 1, if it is flagged, conflicts with every flagged command.
-fn meets_all(k: usize, line: &[u16; 24], flags: &[u16; 24]) -> bool
-    requires { k < 24 }
-    ensures { (result ≡ true) ↔ (get_or flags.now k 0 ≡ 1 → Covered line.now flags.now) }
-{
-    if flags[k] != 1 {
-        return true;
-    }
-    covers(line, flags)
 }
 
 // Whether every two flagged commands conflict.
@@ -39,12 +26,10 @@ pub fn clique(flags: &[u16; 24], conflicts: &[[u16; 24]; 24]) -> bool
     ensures { (c ks : List ℕ) → Conflicts c conflicts.now → Flags ks flags.now
         → (result ≡ true) ↔ Clique (alphabet c) ks }
 {
-    let mut k = 0;
-    while k < 24 {
-        if !meets_all(k, &conflicts[k], flags) {
+    for (flag, line) in flags.iter().zip(conflicts) {
+        if *flag == 1 && !covers(line, flags) {
             return false;
         }
-        k += 1;
     }
     true
 }

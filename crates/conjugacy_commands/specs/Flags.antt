@@ -15,11 +15,6 @@ pub record Flags (ks flags : List ℕ) : Type 0 where
   pub within : (k : ℕ) → k ∈ ks → (1 ≤ k) × (k ≤ 24)
   pub each : (k : ℕ) → k < 24 → Flag ((k + 1) ∈ ks) (get_or flags k 0)
 
--- no flag is set
-pub record Unset (flags : List ℕ) : Type 0 where
-  pub many : length flags ≡ 24
-  pub each : (k : ℕ) → k < 24 → get_or flags k 0 ≡ 0
-
 -- the flagged commands, the first flag being that of command k
 unfoldable pub flagged : ℕ → List ℕ → List ℕ
 flagged k [] = []

@@ -1,8 +1,10 @@
 -- Laws of flags: the flagged commands are the list that the flags tell of, and flags are equal exactly if their lists
 -- are.
-use Rattle.std.specs.Prelude.{ℕ, zero, suc, ◌+◌, ◌-◌, ◌<◌, ◌≤◌, ◌≡◌, refl, Bool, true, false, List, [], ◌∷◌, ◌↔◌, eqb, length, get_or}
+use Rattle.std.specs.Prelude.{ℕ, zero, suc, ◌+◌, ◌-◌, ◌<◌, ◌≤◌, ◌≡◌, refl, Bool, true, false, List, [], ◌∷◌, ◌↔◌, eqb, nat_eq, length, get_or}
+use Rattle.std.specs.Cmp.{unsigned_Decides}
+use Rattle.std.specs.Cmp.Lexicographic.{pointwise, pointwise_decides}
+use Rattle.std.proofs.lemmas.Bool.Decides.{Decides-at}
 use Rattle.std.proofs.Common.{sym, ◌∙◌, ap, subst, arith, ext_get_or, eqb-true, eq-eqb}
-use Rattle.std.proofs.lemmas.Bool.{false≢true}
 use mathlib.Core.List.Memᴰ
 use Rattle.theory_words.specs.All.{All, all_map}
 use Rattle.theory_words.specs.Filter.{keep_if}
@@ -96,17 +98,19 @@ flags_list {ks} {flags} h =
         let t = set_flag (h.each (k - 1) (omega arith)) (Memᴰ.cast e m) in
         Memᴰ.cast (omega arith) (flagged_in 1 (k - 1) flags (omega (arith, h.many)) t)
 
--- the two ends of a comparison
-pub same_flags : {ks js flags others : List ℕ} → ((i : ℕ) → i < 24 → get_or flags i 0 ≡ get_or others i 0)
-    → Flags ks flags → Flags js others → (true ≡ true) ↔ (ks ≡ js)
-same_flags {flags = flags} {others = others} f h g =
-    let e : flags ≡ others = ext_get_or 0 flags others (h.many ∙ sym g.many) (λ i l. f i (omega (arith, h.many))) in
-    ((λ t. sym (flags_list h) ∙ ap (flagged 1) e ∙ flags_list g), (λ d. refl))
-
-pub other_flags : {ks js flags others : List ℕ} (i : ℕ) → i < 24 → (get_or flags i 0 ≡ get_or others i 0 → ⊥)
-    → Flags ks flags → Flags js others → (false ≡ true) ↔ (ks ≡ js)
-other_flags {ks} {js} {flags} {others} i l n h g = (
-  (λ t. absurd (false≢true t)),
-  (λ e. absurd (n (flag_unique (h.each i l)
-      (subst (λ (is : List ℕ). Flag ((i + 1) ∈ is) (get_or others i 0)) (sym e) (g.each i l))))),
+-- flags are equal exactly if they tell of the same commands
+pub flags_equal : {ks js flags others : List ℕ} → Flags ks flags → Flags js others → (flags ≡ others) ↔ (ks ≡ js)
+flags_equal {flags = flags} {others = others} h g = (
+  (λ e. sym (flags_list h) ∙ ap (flagged 1) e ∙ flags_list g),
+  (λ e. ext_get_or 0 flags others (h.many ∙ sym g.many) (λ i l.
+      let m : i < 24 = omega (arith, h.many) in
+      flag_unique (h.each i m)
+      (subst (λ (is : List ℕ). Flag ((i + 1) ∈ is) (get_or others i 0)) (sym e) (g.each i m)))),
 )
+
+pub same_flags : {ks js flags others : List ℕ} {r : Bool} → r ≡ pointwise nat_eq flags others
+    → Flags ks flags → Flags js others → (r ≡ true) ↔ (ks ≡ js)
+same_flags {flags = flags} {others = others} {r} e h g =
+    let d = Decides-at r (pointwise nat_eq flags others) e (pointwise_decides unsigned_Decides flags others) in
+    let f = flags_equal h g in
+    ((λ t. f.0 (d.0 t)), (λ k. d.1 (f.1 k)))

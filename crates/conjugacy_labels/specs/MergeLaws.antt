@@ -1,6 +1,6 @@
 -- Laws of merging labels in an array: the loops of one relabelling, of one row and of all rows, against merge_row and
 -- merge_all over the flagged commands.
-use Rattle.std.specs.Prelude.{ℕ, zero, suc, ◌+◌, ◌<◌, ◌≤◌, min, max, ◌≡◌, refl, Bool, List, [], ◌∷◌, eqb, length, get_or, set, drop}
+use Rattle.std.specs.Prelude.{ℕ, ◌+◌, ◌<◌, ◌≤◌, min, max, ◌≡◌, refl, Bool, List, [], ◌∷◌, eqb, length, get_or, set, drop}
 use Rattle.std.proofs.Common.{sym, ◌∙◌, subst, add-one, arith, below_more, eqb-true, eq-eqb, ne_eqb, length-set, drop_of_length-le, get_or-set_same, get_or-set_other, drop-cons}
 use Rattle.std.proofs.Math.Path.{ap}
 use Rattle.std.proofs.Math.Bool.{true, false}
@@ -13,25 +13,6 @@ use Rattle.conjugacy_commands.specs.Flags.{Flags, flagged_at, flagged}
 use Rattle.conjugacy_commands.specs.FlagsLaws.{flags_list}
 use Rattle.conjugacy_labels.specs.Labels.{LabelsOf}
 use Rattle.conjugacy_labels.specs.Merge.{Relabelled}
-
--- n numbers from k on
-unfoldable pub counts : ℕ → ℕ → List ℕ
-counts zero k = []
-counts (suc n) k = k ∷ counts n (k + 1)
-
-counts-length : (n k : ℕ) → length (counts n k) ≡ n
-unfolding counts
-counts-length zero k = refl
-counts-length (suc n) k = ap suc (counts-length n (k + 1))
-
-counts_at : (n k i : ℕ) → i < n → get_or (counts n k) i 0 ≡ i + k
-unfolding counts
-counts_at zero k i l = absurd (omega arith)
-counts_at (suc n) k zero l = omega arith
-counts_at (suc n) k (suc i) l = counts_at n (k + 1) i (omega arith) ∙ omega arith
-
-pub own_labels : LabelsOf (λ k. k) (counts 24 1)
-own_labels = record { many = counts-length 24 1; each = λ k l. counts_at 24 1 k l }
 
 -- the labels below k have been renamed, the others are as they were
 pub record Relabelling (low high : ℕ) (before now : List ℕ) (k : ℕ) : Type 0 where

@@ -15,9 +15,7 @@ ghost use Rattle.conjugacy_labels.specs.Merge.{Relabelled, LineOf};
 fn own_labels() -> [u8; 24]
     ensures { LabelsOf (λ k. k) result }
 {
-    [
-        1, 2, 3, 4, 5, 6, 7, 8, 9, 10, 11, 12, 13, 14, 15, 16, 17, 18, 19, 20, 21, 22, 23, 24,
-    ]
+    std::array::from_fn(|k| k as u8 + 1)
 }
 
 // The label once low has become high.
@@ -32,10 +30,8 @@ fn relabel(labels: &mut [u8; 24], low: u8, high: u8)
     ensures { length labels.old ≡ 24
         → Relabelled low high labels.old labels.new }
 {
-    let mut k = 0;
-    while k < 24 {
-        labels[k] = renamed(labels[k], low, high);
-        k += 1;
+    for label in labels.iter_mut() {
+        *label = renamed(*label, low, high);
     }
 }
 
@@ -84,10 +80,8 @@ fn merge_row(labels: &mut [u8; 24], flags: &[u16; 24], line: &[u16; 24], i: usiz
     if flags[i] != 1 {
         return;
     }
-    let mut j = 0;
-    while j < 24 {
+    for j in 0..24 {
         merge(labels, flags, line, i, j);
-        j += 1;
     }
 }
 
@@ -97,10 +91,8 @@ pub fn labels(flags: &[u16; 24], conflicts: &[[u16; 24]; 24]) -> [u8; 24]
         → LabelsOf (Part.labels (alphabet c) ks) result }
 {
     let mut labels = own_labels();
-    let mut i = 0;
-    while i < 24 {
-        merge_row(&mut labels, flags, &conflicts[i], i);
-        i += 1;
+    for (i, line) in conflicts.iter().enumerate() {
+        merge_row(&mut labels, flags, line, i);
     }
     labels
 }

@@ -1,6 +1,6 @@
 -- Two cores: where other commands occur they are apart, and where the same occur their parts decide.
 use Prim.Native.Nat.{ℕ, max}
-use Rattle.std.specs.Prelude.{◌≡◌, Bool, ◌&&◌}
+use Rattle.std.specs.Prelude.{◌≡◌, Bool, ◌&&◌, Option, None, Some, MatchOption}
 use Rattle.std.proofs.Math.Path.{refl, ap}
 use Rattle.std.proofs.Common.{◌∙◌}
 use Rattle.std.proofs.Math.Bool.{true, false}
@@ -16,9 +16,8 @@ use Rattle.theory_conjugacy.specs.Rounds.{most_rounds, core_rounds}
 use Rattle.conjugacy_commands.specs.Flags.{Flags}
 use Rattle.conjugacy_labels.specs.Labels.{LabelsOf}
 use Rattle.conjugacy_of_parts.specs.declared.Outcome.{Outcome}
-use Rattle.conjugacy_of_parts.specs.declared.Outcome.TheVariants.{Joined, Apart}
-use Rattle.conjugacy_of_parts.specs.Parts.{both_rounds, PartsOutcome}
-use Rattle.conjugacy_of_cores.specs.Pair.{Joinable, Coreable, cores_rounds, CoresOutcome}
+use Rattle.conjugacy_of_parts.specs.Parts.{both_rounds, PartsJoined, PartsOutcome}
+use Rattle.conjugacy_of_cores.specs.Pair.{Joinable, Coreable, CoresJoined, cores_rounds, CoresOutcome}
 use Rattle.conjugacy_of_cores.specs.ConjugatorLaws.{parts_conjugator}
 
 module _ {c : List ℕ} {conflicts : List (List ℕ)} {x y row : List ℕ} {at : ℕ}
@@ -57,13 +56,16 @@ module _ {c : List ℕ} {conflicts : List (List ℕ)} {x y row : List ℕ} {at :
 
     pub cores_outcome : (after : List ℕ) (o : Outcome) → PartsOutcome c x y (apexes (alphabet c) x) row at after o
         → CoresOutcome c x y row at after o
-    cores_outcome after (Joined end n) (d, e) = (
-      record {
-        word = parts_lead (alphabet c) (apexes (alphabet c) x) x y;
-        conjugator = parts_conjugator h.first h.second (decided ∙ d.joined);
-        written = d.written;
-        ends = d.ends;
-      },
-      e ∙ all_counted,
-    )
-    cores_outcome after (Apart n) (d, e) = (decided ∙ d, e ∙ all_counted)
+    cores_outcome after o (d, e) = (go o.end d, e ∙ all_counted)
+      where
+        go : (s : Option ℕ)
+            → MatchOption s (parts_joined? (alphabet c) (apexes (alphabet c) x) x y ≡ false)
+            (PartsJoined c x y (apexes (alphabet c) x) row at after)
+            → MatchOption s (cores_joined? (alphabet c) x y ≡ false) (CoresJoined c x y row at after)
+        go (Some end) p = record {
+          word = parts_lead (alphabet c) (apexes (alphabet c) x) x y;
+          conjugator = parts_conjugator h.first h.second (decided ∙ p.joined);
+          written = p.written;
+          ends = p.ends;
+        }
+        go None p = decided ∙ p

@@ -1,6 +1,6 @@
 -- What joining two cores, all parts or one, asks and gives. The lead-ins of the parts are written one after the other
 -- behind what stands in a row.
-use Rattle.std.specs.Prelude.{ℕ, ◌+◌, ◌*◌, ◌≤◌, max, ◌≡◌, false, List, ◌++◌, length, take}
+use Rattle.std.specs.Prelude.{ℕ, ◌+◌, ◌*◌, ◌≤◌, max, ◌≡◌, false, List, ◌++◌, length, take, MatchOption}
 use Rattle.spec.specs.Catalogue as Catalogue
 use Rattle.theory_words.specs.Group.{◌≈◌, conj}
 use Rattle.spec.specs.Letters.{alphabet}
@@ -15,7 +15,6 @@ use Rattle.conjugacy_parts.specs.Group.{Grouped}
 use Rattle.conjugacy_settled_parts.specs.PartOf.{Cyclic}
 use Rattle.conjugacy_rounds.specs.Apexes.{apex_at, apexes_from}
 use Rattle.conjugacy_of_parts.specs.declared.Outcome.{Outcome}
-use Rattle.conjugacy_of_parts.specs.declared.Outcome.TheVariants.{Joined, Apart}
 use Rattle.conjugacy_of_parts.specs.Parts.{Two, PartsJoined, both_rounds}
 
 -- two cores in which the same commands occur: the flags tell which, and the labels are those of both
@@ -75,13 +74,9 @@ cores_rounds c core1 core2 = max (core_rounds (alphabet c) core1) (core_rounds (
 
 -- what an outcome says of two cores: a conjugator is written, or there is none; every part is counted
 abbrev pub CoresOutcome : List ℕ → List ℕ → List ℕ → List ℕ → ℕ → List ℕ → Outcome → Type 0
-CoresOutcome c x y before at after (Joined end n) = CoresJoined c x y before at after end × (n ≡ cores_rounds c x y)
-CoresOutcome c x y before at after (Apart n) = (cores_joined? (alphabet c) x y ≡ false) × (n ≡ cores_rounds c x y)
-
--- the rounds that an outcome tells
-abbrev pub rounds_of : Outcome → ℕ
-rounds_of (Joined end n) = n
-rounds_of (Apart n) = n
+CoresOutcome c x y before at after o =
+    MatchOption o.end (cores_joined? (alphabet c) x y ≡ false) (CoresJoined c x y before at after)
+    × (o.rounds ≡ cores_rounds c x y)
 
 -- the apexes up to command k are joined, their lead-ins stand in the row, and their rounds are counted
 pub record Sofar (c core1 core2 fs labels before : List ℕ) (at : ℕ) (after : List ℕ) (end most k : ℕ) : Type 0 where

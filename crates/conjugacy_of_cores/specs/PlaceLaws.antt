@@ -1,5 +1,5 @@
 -- One command: where it occurs and is its own label it is an apex, and its part can be joined.
-use Rattle.std.specs.Prelude.{ℕ, ◌+◌, ◌*◌, ◌≤◌, ◌<◌, ◌≡◌, refl}
+use Rattle.std.specs.Prelude.{ℕ, ◌+◌, ◌*◌, ◌≤◌, ◌<◌, ◌≡◌, refl, Some}
 use Rattle.std.proofs.Math.Path.{sym, ap, subst}
 use Rattle.std.proofs.Common.{◌∙◌, subst₂}
 use mathlib.Core.List.{List, [], ◌∷◌, append-nil}
@@ -14,7 +14,6 @@ use Rattle.conjugacy_parts.specs.GroupedLaws.{slice_part}
 use Rattle.conjugacy_rounds.specs.Apexes.{Apex, apex_at}
 use Rattle.conjugacy_rounds.specs.ApexesLaws.{apex_none, apex_own, apex_member}
 use Rattle.conjugacy_of_parts.specs.declared.Outcome.{Outcome}
-use Rattle.conjugacy_of_parts.specs.declared.Outcome.TheVariants.{Joined}
 use Rattle.conjugacy_of_parts.specs.Parts.{Partable, PartsOutcome}
 use Rattle.conjugacy_of_cores.specs.Pair.{parts_of, Groups, Placeable}
 use Rattle.conjugacy_of_cores.specs.SofarLaws.{joined_none}
@@ -22,9 +21,9 @@ use Rattle.conjugacy_of_cores.specs.SofarLaws.{joined_none}
 module _ {c : List ℕ} {conflicts : List (List ℕ)} {x y fs labels : List ℕ} {k : ℕ} {row : List ℕ} {at : ℕ}
     (h : Placeable c conflicts x y fs labels k row at) where
   -- a command that is no apex adds nothing and takes no rounds
-  pub place_none : ¬ Apex fs labels k → PartsOutcome c x y (apex_at fs labels k) row at row (Joined at 0)
+  pub place_none : ¬ Apex fs labels k → PartsOutcome c x y (apex_at fs labels k) row at row (record { end = Some at; rounds = 0 })
   unfolding most_rounds
-  place_none n = subst (λ (ms : List ℕ). PartsOutcome c x y ms row at row (Joined at 0))
+  place_none n = subst (λ (ms : List ℕ). PartsOutcome c x y ms row at row (record { end = Some at; rounds = 0 }))
       (sym (apex_none fs labels k n)) (joined_none c x y row at, refl)
 
   module _ (l : k < 24) (a : Apex fs labels k) where

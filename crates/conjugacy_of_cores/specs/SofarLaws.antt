@@ -3,7 +3,8 @@
 use Prim.Native.Nat.{ℕ, zero, suc, ◌+◌, ◌*◌, ◌-◌, ◌≤◌, ◌<◌, max}
 use native.Mathlib.Omega.{arith}
 use Rattle.std.proofs.Common.{mul-le-mul_left, mul-add, add-mul, ◌∙◌, ap, length-append}
-use Rattle.std.specs.Prelude.{◌≡◌, refl, true, false, length, take}
+use Rattle.std.specs.Prelude.{◌≡◌, refl, true, false, length, take, None, Some}
+use Rattle.std.proofs.lemmas.Option.{MatchOption-at_some, MatchOption-at_none}
 use Rattle.std.proofs.Math.Path.{sym, subst}
 use mathlib.Core.List.Memᴰ
 use mathlib.Core.List.{List, [], ◌∷◌, ◌++◌, append_assoc, append-nil}
@@ -25,7 +26,6 @@ use Rattle.theory_conjugacy.specs.Rounds.{most_rounds}
 use Rattle.conjugacy_rounds.specs.Apexes.{apex_at, apexes_from}
 use Rattle.conjugacy_rounds.specs.ApexesLaws.{apexes_from_lem}
 use Rattle.conjugacy_of_parts.specs.declared.Outcome.{Outcome}
-use Rattle.conjugacy_of_parts.specs.declared.Outcome.TheVariants.{Joined, Apart}
 use Rattle.conjugacy_of_parts.specs.Parts.{PartsJoined, both_rounds, PartsOutcome}
 use Rattle.conjugacy_of_cores.specs.Pair.{parts_of, Joinable, Placeable, Sofar}
 use Rattle.conjugacy_of_cores.specs.AppendLaws.{shares-append, joined_append, lead_append, rounds_append}
@@ -96,7 +96,7 @@ doubled n i l m e h =
     omega (arith, ap (λ j. j * l) t, add-mul n n l, mul-add n l m, ap (λ j. n * j) e)
 
 -- those before, those behind and this one, in any order
-max_behind : {most m n r d a v : ℕ} → most ≡ d → n ≡ a → r ≡ v → m ≡ max most r → max m n ≡ max d (max a v)
+max_behind : {most m n r d a v : ℕ} → most ≡ d → n ≡ a → r ≡ v → m ≡ max most n → max m r ≡ max d (max a v)
 max_behind e f g h = omega arith
 
 module _ {c : List ℕ} {conflicts : List (List ℕ)} {x y fs labels before : List ℕ} {at : ℕ}
@@ -173,11 +173,12 @@ module _ {c : List ℕ} {conflicts : List (List ℕ)} {x y fs labels before : Li
         (lead_ins_short s.done within s.parts) (omega (arith, h.room, mul-le-mul_left N t)) in
         omega (arith, q, s.parts.ends)
 
-    pub sofar_again : {after' : List ℕ} {end' n m : ℕ} → k < 24
-        → PartsOutcome c x y (apex_at fs labels k) after end after' (Joined end' n) → m ≡ max most n
+    pub sofar_again : {after' : List ℕ} {o : Outcome} {end' m : ℕ} → k < 24
+        → PartsOutcome c x y (apex_at fs labels k) after end after' o → o.end ≡ Some end' → m ≡ max most o.rounds
         → Sofar c x y fs labels before at after' end' m (k + 1)
-    sofar_again l (d, t) e =
+    sofar_again {end' = end'} l (p, t) i e =
         let (n, f, g) = rest_next l in
+        let d = MatchOption-at_some _ _ end' i p in
         record {
           done = s.done ++ apex_at fs labels k;
           left = n;
@@ -185,7 +186,7 @@ module _ {c : List ℕ} {conflicts : List (List ℕ)} {x y fs labels before : Li
           all = append_assoc s.done (apex_at fs labels k) (apexes_from fs labels n (k + 1))
               ∙ ap (λ (z : List ℕ). s.done ++ z) (sym g) ∙ s.all;
           parts = parts_joined_append s.done (apex_at fs labels k) s.parts d;
-          rounds = omega (arith, s.rounds, rounds_append c s.done (apex_at fs labels k) x y);
+          rounds = omega (arith, s.rounds, t, e, rounds_append c s.done (apex_at fs labels k) x y);
         }
 
     apart_all : k < 24 → parts_joined? (alphabet c) (apex_at fs labels k) x y ≡ false
@@ -204,8 +205,8 @@ module _ {c : List ℕ} {conflicts : List (List ℕ)} {x y fs labels before : Li
 
     -- with those of the parts behind it, all are counted
     all_rounds : {n r m : ℕ} → k < 24 → n ≡ both_rounds c (apex_at fs labels k) x y
-        → r ≡ both_rounds c (apexes_from fs labels (24 - (k + 1)) (k + 1)) x y → m ≡ max most r
-        → max m n ≡ both_rounds c (apexes (alphabet c) x) x y
+        → r ≡ both_rounds c (apexes_from fs labels (24 - (k + 1)) (k + 1)) x y → m ≡ max most n
+        → max m r ≡ both_rounds c (apexes (alphabet c) x) x y
     all_rounds l e i f =
         let (n, t, g) = rest_next l in
         let a = apex_at fs labels k in
@@ -215,15 +216,16 @@ module _ {c : List ℕ} {conflicts : List (List ℕ)} {x y fs labels before : Li
         w ∙ ap (max (b s.done)) (sym (ap b g ∙ rounds_append c a (apexes_from fs labels n (k + 1)) x y))
         ∙ sym (rounds_append c s.done rest x y) ∙ ap b s.all
 
-    pub sofar_stop : (after' after'' : List ℕ) {n r m : ℕ} → k < 24
-        → PartsOutcome c x y (apex_at fs labels k) after end after' (Apart n)
-        → r ≡ both_rounds c (apexes_from fs labels (24 - (k + 1)) (k + 1)) x y → m ≡ max most r
-        → PartsOutcome c x y (apexes (alphabet c) x) before at after'' (Apart (max m n))
-    sofar_stop after' after'' l (d, e) i f = (apart_all l d, all_rounds l e i f)
+    pub sofar_stop : (after' after'' : List ℕ) {o : Outcome} {r m t : ℕ} → k < 24
+        → PartsOutcome c x y (apex_at fs labels k) after end after' o → o.end ≡ None → m ≡ max most o.rounds
+        → r ≡ both_rounds c (apexes_from fs labels (24 - (k + 1)) (k + 1)) x y → t ≡ max m r
+        → PartsOutcome c x y (apexes (alphabet c) x) before at after'' (record { end = None; rounds = t })
+    sofar_stop after' after'' l (p, e) f g i j =
+        (apart_all l (MatchOption-at_none _ _ f p), j ∙ all_rounds l e i g)
 
-    pub sofar_end : (k < 24 → ⊥) → PartsOutcome c x y (apexes (alphabet c) x) before at after (Joined end most)
+    pub sofar_end : (k < 24 → ⊥) → PartsOutcome c x y (apexes (alphabet c) x) before at after (record { end = Some end; rounds = most })
     unfolding apexes_from
-    sofar_end n = subst (λ (ms : List ℕ). PartsOutcome c x y ms before at after (Joined end most))
+    sofar_end n = subst (λ (ms : List ℕ). PartsOutcome c x y ms before at after (record { end = Some end; rounds = most }))
         (go s.left s.count s.all) (s.parts, s.rounds)
       where
         go : (m : ℕ) → m + k ≡ 24 → s.done ++ apexes_from fs labels m k ≡ apexes (alphabet c) x
@@ -234,8 +236,3 @@ module _ {c : List ℕ} {conflicts : List (List ℕ)} {x y fs labels before : Li
     -- so the next command can be tried
     pub sofar_placeable : length after ≡ length before → k < 24 → Placeable c conflicts x y fs labels k after end
     sofar_placeable e l = record { flagged = h.flagged; room = sofar_room l e }
-
--- what one step tells
-pub parts_told : (c x y ms before : List ℕ) (at : ℕ) (after : List ℕ) {o p : Outcome}
-    → PartsOutcome c x y ms before at after o → o ≡ p → PartsOutcome c x y ms before at after p
-parts_told c x y ms before at after d e = subst (PartsOutcome c x y ms before at after) e d

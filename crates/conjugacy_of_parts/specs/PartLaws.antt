@@ -2,7 +2,7 @@
 -- written is the lead-in.
 use Prim.Native.Nat.{ℕ, suc, ◌+◌, ◌*◌, ◌-◌, ◌≤◌, max}
 use Rattle.std.proofs.Common.{arith, mul-add, add-mul, sym, ◌∙◌, subst, length-take, length-take-le, take-take, take_at}
-use Rattle.std.specs.Prelude.{◌≡◌, false}
+use Rattle.std.specs.Prelude.{◌≡◌, false, Option, None, Some}
 use Rattle.std.proofs.Math.Path.{ap}
 use mathlib.Core.List.{List, [], ◌∷◌, ◌++◌, append_assoc, append-nil}
 use Rattle.std.proofs.Math.ListN.{length, take, length-append}
@@ -21,8 +21,6 @@ use Rattle.conjugacy_settled_parts.specs.declared.Ends.{Ends}
 use Rattle.conjugacy_settled_parts.specs.PartOf.{PartOf}
 use Rattle.conjugacy_settled_parts.specs.PartOfLaws.{apex_some, apex_cycled}
 use Rattle.conjugacy_ring.specs.Ring.{Rung}
-use Rattle.conjugacy_of_parts.specs.declared.Outcome.{Outcome}
-use Rattle.conjugacy_of_parts.specs.declared.Outcome.TheVariants.{Joined, Apart}
 use Rattle.conjugacy_of_parts.specs.Parts.{RingsRoom, RingsJoined, RingsOutcome}
 use Rattle.conjugacy_of_parts.specs.Parts.{Partable, PartsJoined, both_rounds, PartsOutcome}
 
@@ -128,12 +126,12 @@ module _ {c : List ℕ} {conflicts : List (List ℕ)} {x y : List ℕ} {apex : �
       way_cycled = g.cycled ∙ ap (λ (z : List ℕ). z ++ settling (alphabet c) apex q) (sym begins)
 
       -- the same with the rings themselves
-      outcome_of_rings : (after : List ℕ) (n : ℕ) (o : Outcome)
+      outcome_of_rings : (after : List ℕ) (o : Option ℕ)
           → RingsOutcome c (take ends.letters ring) (take last.letters other) (settling (alphabet c) apex q) row''
-          ends.cycled after n o
+          ends.cycled after o
           → RingsOutcome c (part_ring (alphabet c) apex x) (part_ring (alphabet c) apex y)
-          (settling (alphabet c) apex q) row'' ends.cycled after n o
-      outcome_of_rings after n o h = rw (← f.ring, ← g.ring) h
+          (settling (alphabet c) apex q) row'' ends.cycled after o
+      outcome_of_rings after o h = rw (← f.ring, ← g.ring) h
 
       -- it is the lead-in of the part
       part_joined : (after : List ℕ) (end : ℕ)
@@ -165,13 +163,10 @@ module _ {c : List ℕ} {conflicts : List (List ℕ)} {x y : List ℕ} {apex : �
       unfolding most_rounds
       part-counted e = omega (arith, f.rounds, g.rounds)
 
-      pub part_outcome : (after : List ℕ) {n : ℕ} → n ≡ max ends.rounds last.rounds → (o : Outcome)
+      pub part_outcome : (after : List ℕ) {n : ℕ} → n ≡ max ends.rounds last.rounds → (o : Option ℕ)
           → RingsOutcome c (take ends.letters ring) (take last.letters other) (settling (alphabet c) apex q) row''
-          ends.cycled after n o
-          → PartsOutcome c x y (apex ∷ []) row at after o
-      part_outcome after {n} e (Joined end m) h =
-          let (j, l) = outcome_of_rings after n (Joined end m) h in
-          (part_joined after end j, part-counted (l ∙ e))
-      part_outcome after {n} e (Apart m) h =
-          let (j, l) = outcome_of_rings after n (Apart m) h in
-          (part_apart j, part-counted (l ∙ e))
+          ends.cycled after o
+          → PartsOutcome c x y (apex ∷ []) row at after (record { end = o; rounds = n })
+      part_outcome after e (Some end) h =
+          (part_joined after end (outcome_of_rings after (Some end) h), part-counted e)
+      part_outcome after e None h = (part_apart (outcome_of_rings after None h), part-counted e)

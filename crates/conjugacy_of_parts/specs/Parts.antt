@@ -1,5 +1,6 @@
 -- What joining one part of two cores asks and gives. Its lead-in is written behind what stands in a row.
 use Rattle.std.specs.Prelude.{ℕ, ◌+◌, ◌*◌, ◌≤◌, max, ◌≡◌, true, false, List, [], ◌++◌, length, take}
+use Rattle.std.specs.Prelude.{Option, MatchOption}
 use Rattle.spec.specs.Catalogue as Catalogue
 use Rattle.theory_words.specs.Group.{undo}
 use Rattle.spec.specs.Letters.{alphabet}
@@ -11,7 +12,6 @@ use Rattle.theory_conjugacy.specs.LeadIn.{place, parts_lead}
 use Rattle.theory_conjugacy.specs.Rounds.{most_rounds}
 use Rattle.conjugacy_settled_parts.specs.PartOf.{Cyclic}
 use Rattle.conjugacy_of_parts.specs.declared.Outcome.{Outcome}
-use Rattle.conjugacy_of_parts.specs.declared.Outcome.TheVariants.{Joined, Apart}
 
 -- the letters cycled stand between two places, and behind them the row has room for the ring
 pub record RingsRoom (ring row : List ℕ) (from at : ℕ) : Type 0 where
@@ -26,13 +26,10 @@ pub record RingsJoined (c ring other cycled before : List ℕ) (at : ℕ) (after
       ≡ take at before ++ (take (place (rotation (alphabet c) ring other)) ring ++ undo (alphabet c) cycled [])
   pub ends : end ≡ at + length (take (place (rotation (alphabet c) ring other)) ring ++ undo (alphabet c) cycled [])
 
--- what an outcome says of two rings: they are rotations of one another and the way is written, or they are none; and
--- the rounds passed on
-abbrev pub RingsOutcome : List ℕ → List ℕ → List ℕ → List ℕ → List ℕ → ℕ → List ℕ → ℕ → Outcome → Type 0
-RingsOutcome c ring other cycled before at after rounds (Joined end n) =
-    RingsJoined c ring other cycled before at after end × (n ≡ rounds)
-RingsOutcome c ring other cycled before at after rounds (Apart n) =
-    (rotated? (alphabet c) ring other ≡ false) × (n ≡ rounds)
+-- what the end of a way says of two rings: they are rotations of one another and the way is written, or they are none
+abbrev pub RingsOutcome : List ℕ → List ℕ → List ℕ → List ℕ → List ℕ → ℕ → List ℕ → Option ℕ → Type 0
+RingsOutcome c ring other cycled before at after o =
+    MatchOption o (rotated? (alphabet c) ring other ≡ false) (RingsJoined c ring other cycled before at after)
 
 -- two cores in which the same commands occur
 pub record Two (c : List ℕ) (conflicts : List (List ℕ)) (core1 core2 : List ℕ) : Type 0 where
@@ -66,7 +63,6 @@ both_rounds c ms core1 core2 = max (most_rounds (alphabet c) ms core1) (most_rou
 
 -- what an outcome says of the parts with these apexes
 abbrev pub PartsOutcome : List ℕ → List ℕ → List ℕ → List ℕ → List ℕ → ℕ → List ℕ → Outcome → Type 0
-PartsOutcome c x y ms before at after (Joined end n) =
-    PartsJoined c x y ms before at after end × (n ≡ both_rounds c ms x y)
-PartsOutcome c x y ms before at after (Apart n) =
-    (parts_joined? (alphabet c) ms x y ≡ false) × (n ≡ both_rounds c ms x y)
+PartsOutcome c x y ms before at after o =
+    MatchOption o.end (parts_joined? (alphabet c) ms x y ≡ false) (PartsJoined c x y ms before at after)
+    × (o.rounds ≡ both_rounds c ms x y)

@@ -1,7 +1,7 @@
 -- From one ring to another: what the search for a rotation tells, and what is appended.
 use Prim.Native.Nat.{ℕ, ◌≤◌}
 use native.Mathlib.Omega.{arith}
-use Rattle.std.specs.Prelude.{◌≡◌, refl, Bool, true, false, ◌&&◌, eqb}
+use Rattle.std.specs.Prelude.{◌≡◌, refl, Bool, true, false, ◌&&◌, eqb, Option, None, Some}
 use Rattle.std.proofs.Math.Path.{sym, ap}
 use Rattle.std.proofs.Common.{◌∙◌, take-take}
 use mathlib.Core.List.{List, [], ◌++◌, append_assoc}
@@ -16,9 +16,7 @@ use Rattle.theory_conjugacy.specs.RotationLaws.{rotation-some, rotation_rotated}
 use Rattle.theory_conjugacy.specs.Decision.{found?, rotated?}
 use Rattle.theory_conjugacy.specs.LeadIn.{place}
 use Rattle.theory_conjugacy.specs.LeadInLaws.{rotated_test}
-use Rattle.conjugacy_rotation.specs.declared.Start.{Start}
-use Rattle.conjugacy_rotation.specs.declared.Start.TheVariants.{At, Nowhere}
-use Rattle.conjugacy_rotation.specs.Told.{told_start}
+use Rattle.spec.specs.Answers.{told_option}
 use Rattle.array_row.specs.Row.{Appended, Undone}
 use Rattle.array_row.specs.RowLaws.{appended_take, appended_length}
 use Rattle.array_row.specs.UndoLaws.{undone_take}
@@ -28,15 +26,15 @@ and-false : (t : Bool) → (t && false) ≡ false
 and-false true = refl
 and-false false = refl
 
-module _ (c ring other : List ℕ) {s : Start} (t : told_start s ≡ rotation (alphabet c) ring other) where
-  pub nowhere_apart : s ≡ Nowhere → rotated? (alphabet c) ring other ≡ false
+module _ (c ring other : List ℕ) {s : Option ℕ} (t : told_option s ≡ rotation (alphabet c) ring other) where
+  pub nowhere_apart : s ≡ None → rotated? (alphabet c) ring other ≡ false
   unfolding rotated? found?
   nowhere_apart e =
-      let f : rotation (alphabet c) ring other ≡ none = sym t ∙ ap told_start e in
+      let f : rotation (alphabet c) ring other ≡ none = sym t ∙ ap told_option e in
       rw f (and-false (eqb (length ring) (length other)))
 
-  pub start_found : {i : ℕ} → s ≡ At i → rotation (alphabet c) ring other ≡ some i
-  start_found e = sym t ∙ ap told_start e
+  pub start_found : {i : ℕ} → s ≡ Some i → rotation (alphabet c) ring other ≡ some i
+  start_found e = sym t ∙ ap told_option e
 
 module _ (c ring other : List ℕ) {i : ℕ} (f : rotation (alphabet c) ring other ≡ some i) where
   pub start_within : i ≤ length ring

@@ -7,41 +7,31 @@
 ghost use Rattle.std.specs.Prelude.{ℕ, ◌≡◌, List, [], ◌∷◌, ◌++◌, take};
 ghost use Rattle.conjugacy_of_parts.specs.Parts.{RingsRoom, RingsOutcome, Partable, PartsOutcome};
 
-use array_row::{append_undone, sheet, undo_between};
+use array_row::{append_undone, undo_between};
 use conjugacy_ring::ring_of;
-use conjugacy_rotation::{Start, rotation};
-use conjugacy_rounds::larger;
+use conjugacy_rotation::rotation;
 
-// Two loops are joined, by a lead-in that ends here, or apart; and the most rounds that a part took.
+// The end of a lead-in, where two loops are joined; and the most rounds that a part took, joined or not. The end is a
+// place in a row, and only for whole plans the length that `spec::Loops` has.
 #[derive(Clone, Copy)]
-pub enum Outcome {
-    Joined { end: usize, rounds: usize },
-    Apart { rounds: usize },
+pub struct Outcome {
+    pub end: Option<usize>,
+    pub rounds: usize,
 }
 
-// Whether a ring is a rotation of another, and the way between them behind the first bytes of the row: the ring up to
-// the place at which they agree, and the letters cycled, undone. Those stand in the row up to `at`; the ring's letters
-// are put behind them, undone, and then all of it is undone where it stands. The rounds are passed on.
-fn join_rings(
-    ring: &[u8],
-    other: &[u8],
-    row: &mut [u8],
-    from: usize,
-    at: usize,
-    rounds: usize,
-) -> Outcome
+// Where a ring is a rotation of another, the end of the way between them behind the first bytes of the row: the ring up
+// to the place at which they agree, and the letters cycled, undone. Those stand in the row up to `at`; the ring's
+// letters are put behind them, undone, and then all of it is undone where it stands.
+fn join_rings(ring: &[u8], other: &[u8], row: &mut [u8], from: usize, at: usize) -> Option<usize>
     requires { RingsRoom ring.now row.old from at }
     ensures { (c cycled : List ℕ) → take at row.old ≡ take from row.old ++ cycled
         → RingsOutcome c ring.now other.now cycled row.old from row.new
-        rounds result }
+        result }
 {
-    let found = rotation(ring, other);
-    let Start::At(start) = found else {
-        return Outcome::Apart { rounds };
-    };
+    let start = rotation(ring, other)?;
     let end = append_undone(row, at, &ring[..start]);
     undo_between(row, from, end);
-    Outcome::Joined { end, rounds }
+    Some(end)
 }
 
 // Whether the first core's part with this apex is joined to the second's, and the lead-in behind the first bytes of the
@@ -60,16 +50,19 @@ pub fn join_part(
         → Partable c conflicts.now x y apex part1.now part2.now row.old at
         → PartsOutcome c x y (apex ∷ []) row.old at row.new result }
 {
-    let mut ring = sheet();
-    let mut other = sheet();
+    let mut ring: [u8; 1024] = array_row::row(0);
+    let mut other: [u8; 1024] = array_row::row(0);
     let one = ring_of(part1, apex, conflicts, &mut ring, row, at);
     let two = ring_of(part2, apex, conflicts, &mut other, row, one.cycled);
-    join_rings(
+    let end = join_rings(
         &ring[..one.letters],
         &other[..two.letters],
         row,
         one.cycled,
         two.cycled,
-        larger(one.rounds, two.rounds),
-    )
+    );
+    Outcome {
+        end,
+        rounds: one.rounds.max(two.rounds),
+    }
 }

@@ -3,48 +3,61 @@
 
 #![tactic(auto)]
 
-ghost use Rattle.std.specs.Prelude.{ℕ, List};
-ghost use Rattle.conjugacy_by_cores.specs.Join.{Plans, Cores, PlansRoom, PlansOutcome};
+ghost use Rattle.std.specs.Prelude.{ℕ, ◌≤◌, List};
+ghost use Rattle.conjugacy_by_cores.specs.Join.{Plans, Cores, FormRoom, PlansRoom, PlansOutcome};
 
-use array_row::sheet;
-use conjugacy_by_cores::lead_in_form;
+use conjugacy_by_cores::{Core, lead_in_form};
 use conjugacy_of_parts::Outcome;
 use piling_core_letters::core_of;
 
-// As `lead_in_form`, for n commands, with a row of its own: the shortest that suffices, so that short cores clear
-// little.
+// As `lead_in_form`, with a row of so many bytes of its own. Each of its instances has a frame of its own, so that a
+// call takes the stack of one row.
+#[inline(never)]
+fn join_in<const N: usize>(
+    one: &Core<'_>,
+    two: &Core<'_>,
+    conflicts: &[[u16; 24]; 24],
+    area: &mut [u8],
+) -> Outcome
+    requires { (N ≤ 50176) × ((c : List ℕ) × (v : List ℕ) × (w : List ℕ)
+        × FormRoom c conflicts.now v w one.now.letters.now one.now.lead.now two.now.letters.now two.now.lead.now N
+        area.old) }
+    ensures { (c v w : List ℕ)
+        → FormRoom c conflicts.now v w one.now.letters.now one.now.lead.now two.now.letters.now two.now.lead.now N
+        area.old
+        → PlansOutcome c v w area.old result area.new }
+{
+    let mut row: [u8; N] = array_row::row(0);
+    lead_in_form(one, two, conflicts, &mut row, area)
+}
+
+// The same for n commands, in the shortest row that suffices, so that short cores clear little.
 fn join_by_cores(
-    core1: &[u8],
-    lead1: &[u8],
-    core2: &[u8],
-    lead2: &[u8],
+    one: &Core<'_>,
+    two: &Core<'_>,
     n: usize,
     conflicts: &[[u16; 24]; 24],
     area: &mut [u8],
 ) -> Outcome
     requires { (c : List ℕ) × (v : List ℕ) × (w : List ℕ)
-        × Cores c conflicts.now v w core1.now lead1.now core2.now lead2.now
+        × Cores c conflicts.now v w one.now.letters.now one.now.lead.now two.now.letters.now two.now.lead.now
         × PlansRoom c v w n area.old }
     ensures { (c v w : List ℕ)
-        → Cores c conflicts.now v w core1.now lead1.now core2.now
-        lead2.now
+        → Cores c conflicts.now v w one.now.letters.now one.now.lead.now two.now.letters.now two.now.lead.now
         → PlansRoom c v w n area.old → PlansOutcome c v w area.old result area.new }
 {
-    let need = n * (2 * lead1.len() + core1.len() + (2 * lead2.len() + core2.len()));
+    let need = n
+        * (2 * one.lead.len() + one.letters.len() + (2 * two.lead.len() + two.letters.len()));
     if need <= 2048 {
-        let mut row = array_row::short_row();
-        return lead_in_form(core1, lead1, core2, lead2, conflicts, &mut row, area);
+        return join_in::<2048>(one, two, conflicts, area);
     }
     if need <= 8192 {
-        let mut row = array_row::middle_row();
-        return lead_in_form(core1, lead1, core2, lead2, conflicts, &mut row, area);
+        return join_in::<8192>(one, two, conflicts, area);
     }
     if need <= 24576 {
-        let mut row = array_row::wide_row();
-        return lead_in_form(core1, lead1, core2, lead2, conflicts, &mut row, area);
+        return join_in::<24576>(one, two, conflicts, area);
     }
-    let mut row = array_row::blank_row();
-    lead_in_form(core1, lead1, core2, lead2, conflicts, &mut row, area)
+    join_in::<50176>(one, two, conflicts, area)
 }
 
 // Whether two plans are joined, with so many commands, and the lead-in at the start of the area.
@@ -61,19 +74,19 @@ pub fn join_plans(
         → PlansRoom c v.now w.now commands area.old
         → PlansOutcome c v.now w.now area.old result area.new }
 {
-    let mut core1 = sheet();
-    let mut lead1 = sheet();
+    let mut core1: [u8; 1024] = array_row::row(0);
+    let mut lead1: [u8; 1024] = array_row::row(0);
     let one = core_of(v, conflicts, &mut core1, &mut lead1);
-    let mut core2 = sheet();
-    let mut lead2 = sheet();
+    let mut core2: [u8; 1024] = array_row::row(0);
+    let mut lead2: [u8; 1024] = array_row::row(0);
     let two = core_of(w, conflicts, &mut core2, &mut lead2);
-    join_by_cores(
-        &core1[..one.core],
-        &lead1[..one.lead],
-        &core2[..two.core],
-        &lead2[..two.lead],
-        commands,
-        conflicts,
-        area,
-    )
+    let first = Core {
+        letters: &core1[..one.core],
+        lead: &lead1[..one.lead],
+    };
+    let second = Core {
+        letters: &core2[..two.core],
+        lead: &lead2[..two.lead],
+    };
+    join_by_cores(&first, &second, commands, conflicts, area)
 }

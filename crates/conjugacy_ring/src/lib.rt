@@ -8,7 +8,7 @@ ghost use Rattle.array_row.specs.Area.{StartsWith};
 ghost use Rattle.conjugacy_settled_parts.specs.PartOf.{Cyclic, PartOf};
 ghost use Rattle.conjugacy_ring.specs.Ring.{Rung};
 
-use array_row::{append, sheet};
+use array_row::append;
 use conjugacy_cliques::clique;
 use conjugacy_commands::occurring;
 use conjugacy_settled_parts::{Ends, settle_part};
@@ -43,7 +43,7 @@ pub fn ring_of(
         → PartOf c conflicts.now x apex part.now cycled.old at
         → Rung c x apex ring.new cycled.old cycled.new at result }
 {
-    let mut word = sheet();
+    let mut word: [u8; 1024] = array_row::row(0);
     let ends = settle_part(part, apex, conflicts, &mut word, cycled, at);
     let letters = sorted(&word[..ends.letters], conflicts, ring);
     Ends {

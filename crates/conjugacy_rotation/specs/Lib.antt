@@ -1,4 +1,2 @@
-pub mod Stride
-pub mod StrideLaws
-pub mod Told
+pub mod Blocks
 pub mod SearchLaws

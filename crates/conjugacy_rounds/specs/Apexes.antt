@@ -1,5 +1,5 @@
 -- The apexes of a core, from the flags and labels of its commands.
-use Rattle.std.specs.Prelude.{ℕ, zero, suc, ◌+◌, ◌-◌, ◌<◌, ◌≤◌, ◌≡◌, ◌&&◌, List, [], ◌∷◌, ◌++◌, get_or, eqb}
+use Rattle.std.specs.Prelude.{ℕ, zero, suc, ◌+◌, ◌-◌, ◌<◌, ◌≤◌, ◌≡◌, ◌&&◌, List, [], ◌∷◌, ◌++◌, Option, None, Some, get_or, eqb}
 use Rattle.theory_words.specs.Filter.{keep_if}
 
 -- command k + 1 is flagged and its own label
@@ -26,3 +26,13 @@ pub record NextApex (fs labels : List ℕ) (k r : ℕ) : Type 0 where
 pub record LoneApex (fs labels : List ℕ) (r : ℕ) : Type 0 where
   pub apex : r < 24 → Apex fs labels r
   pub only : r < 24 → apexes_from fs labels 24 0 ≡ (r + 1) ∷ []
+
+-- what a search for the next apex gives: its place, or None where there is none
+abbrev pub NextFound : List ℕ → List ℕ → ℕ → Option ℕ → Type 0
+NextFound fs labels k None = NextApex fs labels k 24
+NextFound fs labels k (Some r) = (r < 24) × NextApex fs labels k r
+
+-- what a search for the only apex gives: its place, or None
+abbrev pub LoneFound : List ℕ → List ℕ → Option ℕ → Type 0
+LoneFound fs labels None = LoneApex fs labels 24
+LoneFound fs labels (Some r) = (r < 24) × LoneApex fs labels r

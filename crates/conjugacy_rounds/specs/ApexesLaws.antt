@@ -1,14 +1,13 @@
 -- The apexes of a core are the commands that are flagged and their own labels.
 use Prim.Native.Nat.{ℕ, zero, suc, ◌+◌, ◌-◌, ◌<◌, ◌≤◌}
-use Rattle.std.proofs.Common.{arith, add-one, ◌∙◌, true≢false, drop_of_length-le, eq-eqb, eqb-true}
-use Rattle.std.specs.Prelude.{◌≡◌, Bool, not, ◌&&◌, ◌↔◌}
+use Rattle.std.proofs.Common.{arith, add-one, ◌∙◌, drop_of_length-le, eq-eqb, eqb-true}
+use Rattle.std.specs.Prelude.{◌≡◌, Bool, ◌&&◌}
 use Rattle.std.proofs.Math.Path.{refl, sym, ap, subst}
 use Rattle.std.proofs.Math.Bool.{true, false}
 use mathlib.Core.List.{List, [], ◌∷◌, ◌++◌}
 use Rattle.std.proofs.Math.ListN.{get_or, drop}
 use Rattle.std.proofs.Math.Seq.{drop-cons}
 use Rattle.std.proofs.Math.Dec.{eqb}
-use Rattle.std.proofs.lemmas.Bool.{not-true, not-false}
 use Rattle.spec.specs.Letters.{alphabet}
 use Rattle.theory_words.specs.Filter.{filter, keep_if}
 use Rattle.theory_words.specs.FilterLaws.{mem_filter}
@@ -18,14 +17,6 @@ use Rattle.conjugacy_commands.specs.Flags.{Flags, flagged}
 use Rattle.conjugacy_commands.specs.FlagsLaws.{flags_list, flag_set}
 use Rattle.conjugacy_labels.specs.Labels.{LabelsOf}
 use Rattle.conjugacy_rounds.specs.Apexes.{Apex, apex_at, apexes_from, NextApex, LoneApex}
-
--- what a test tells where it is denied
-
-pub denied_no : {P : Type 0} {r : Bool} → (r ≡ true) ↔ P → not r ≡ false → P
-denied_no {r = r} t e = t.0 (not-false r e)
-
-pub denied_yes : {P : Type 0} {r : Bool} → (r ≡ true) ↔ P → not r ≡ true → ¬ P
-denied_yes {r = r} t e p = true≢false (sym (t.1 p) ∙ not-true r e)
 
 -- one command
 
@@ -91,9 +82,6 @@ lone_apex {fs} {labels} {k} {r} f l g u = record {
       ∙ ap (λ (ms : List ℕ). ms ++ apexes_from fs labels (24 - (k + 1)) (k + 1)) (apex_own fs labels k (f.apex l))
       ∙ ap (λ (ms : List ℕ). (k + 1) ∷ ms) (g.rest ∙ apexes_end fs labels r u);
 }
-
-pub none_lone : {fs labels : List ℕ} → LoneApex fs labels 24
-none_lone = record { apex = λ h. absurd (omega arith); only = λ h. absurd (omega arith) }
 
 -- all commands
 

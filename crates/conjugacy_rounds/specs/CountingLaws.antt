@@ -118,7 +118,7 @@ module _ {c : List ℕ} {conflicts : List (List ℕ)} {x word starts fs labels r
   group_counts a {row'} {n} s =
       subst (λ (ms : List ℕ). Counts c x ms 0 row row' at n) (sym (apex_own fs labels k a)) s
 
--- a core can be grouped in a sheet, with its 1,024 bytes
+-- a core can be grouped in a row of 1,024 bytes
 
 module _ {c : List ℕ} {conflicts : List (List ℕ)} {x fs labels row : List ℕ} {at : ℕ}
     (h : CoreOf c conflicts x fs labels row at) where

@@ -1,65 +1,55 @@
 // How many rounds the parts of a core need, where no ring is asked for. A row is worked in behind a place, and what
-// stands before that place is kept.
+// stands before that place is kept: no struct of row and place, since each call lends the row anew at another place.
 
 #![tactic(auto)]
 
 ghost use Rattle.std.specs.Prelude.{ℕ, ◌+◌, ◌-◌, ◌<◌, ◌≤◌, max, ◌≡◌, true, List, ◌∷◌, [], ◌↔◌, get_or};
 ghost use Rattle.conjugacy_settled_parts.specs.PartOf.{PartOf};
-ghost use Rattle.conjugacy_rounds.specs.Apexes.{Apex, apex_at, apexes_from, NextApex, LoneApex};
+ghost use Rattle.conjugacy_rounds.specs.Apexes.{Apex, apex_at, apexes_from, NextFound, LoneFound};
 ghost use Rattle.conjugacy_rounds.specs.Counting.{ApexOf, CoreOf, GroupOf, Counts};
 
-use array_row::sheet;
 use conjugacy_parts::group;
 use conjugacy_settled_parts::settle_part;
 
-// The larger of two numbers.
-pub fn larger(a: usize, b: usize) -> usize
-    ensures { result ≡ max a b }
-{
-    if a < b { b } else { a }
+// Which commands occur in a core, as flags, and the label of each: the largest command of its part.
+#[derive(Clone, Copy)]
+pub struct Parts {
+    pub flags: [u16; 24],
+    pub labels: [u8; 24],
 }
 
-// Whether command k + 1 is an apex: it occurs, and it is its own label.
-pub fn is_apex(flags: &[u16; 24], labels: &[u8; 24], k: usize) -> bool
-    requires { k < 24 }
-    ensures { (result ≡ true) ↔ Apex flags.now labels.now k }
-{
-    if flags[k] != 1 {
-        return false;
+impl Parts {
+    // Whether command k + 1 is an apex: it occurs, and it is its own label.
+    pub fn is_apex(&self, k: usize) -> bool
+        requires { k < 24 }
+        ensures { (result ≡ true) ↔ Apex self.now.flags self.now.labels k }
+    {
+        self.flags[k] == 1 && self.labels[k] == (k + 1) as u8
     }
-    if labels[k] != (k + 1) as u8 {
-        return false;
-    }
-    true
-}
 
-// The place of the next apex from command k + 1 on, or 24 where there is none.
-fn next_apex(flags: &[u16; 24], labels: &[u8; 24], k: usize) -> usize
-    requires { k ≤ 24 }
-    ensures { NextApex flags.now labels.now k result }
-{
-    let mut j = k;
-    while j < 24 {
-        if is_apex(flags, labels, j) {
-            return j;
+    // The place of the next apex from command k + 1 on.
+    fn next_apex(&self, k: usize) -> Option<usize>
+        requires { k ≤ 24 }
+        ensures { NextFound self.now.flags self.now.labels k result }
+    {
+        for j in k..24 {
+            if self.is_apex(j) {
+                return Some(j);
+            }
         }
-        j += 1;
+        None
     }
-    24
-}
 
-// The place of the only apex, or 24 where there are several or none.
-pub fn lone_apex(flags: &[u16; 24], labels: &[u8; 24]) -> usize
-    ensures { LoneApex flags.now labels.now result }
-{
-    let first = next_apex(flags, labels, 0);
-    if first == 24 {
-        return 24;
+    // The place of the only apex, where there is just one.
+    pub fn lone_apex(&self) -> Option<usize>
+        ensures { LoneFound self.now.flags self.now.labels result }
+    {
+        let first = self.next_apex(0)?;
+        match self.next_apex(first + 1) {
+            Some(_) => None,
+            None => Some(first),
+        }
     }
-    if next_apex(flags, labels, first + 1) < 24 {
-        return 24;
-    }
-    first
 }
 
 // Whether command k + 1 is the only one with its label, of those up to it.
@@ -67,14 +57,8 @@ fn alone(labels: &[u8; 24], k: usize) -> bool
     requires { k < 24 }
     ensures { (result ≡ true) ↔ ((j : ℕ) → j < k → get_or labels.now j 0 ≡ k + 1 → ⊥) }
 {
-    let mut j = 0;
-    while j < k {
-        if labels[j] == (k + 1) as u8 {
-            return false;
-        }
-        j += 1;
-    }
-    true
+    let apex = (k + 1) as u8;
+    !labels[..k].contains(&apex)
 }
 
 // The rounds that the part with this apex needs.
@@ -90,7 +74,7 @@ fn part_rounds(
         → PartOf c conflicts.now x apex part.now row.old at
         → Counts c x (apex ∷ []) 0 row.old row.new at result }
 {
-    let mut word = sheet();
+    let mut word: [u8; 1024] = array_row::row(0);
     let ends = settle_part(part, apex, conflicts, &mut word, row, at);
     ends.rounds
 }
@@ -116,40 +100,43 @@ fn apex_rounds(
     part_rounds(part, labels[k], conflicts, row, at)
 }
 
+// A core in which the letters of each part stand together, and where those of each label start.
+#[derive(Clone, Copy)]
+pub struct Group<'a> {
+    pub word: &'a [u8],
+    pub starts: &'a [u16; 26],
+}
+
 // The same in a grouped core, if command k + 1 is an apex.
 fn rounds_at(
-    word: &[u8],
-    starts: &[u16; 26],
-    flags: &[u16; 24],
-    labels: &[u8; 24],
+    group: &Group<'_>,
+    parts: &Parts,
     k: usize,
     conflicts: &[[u16; 24]; 24],
     row: &mut [u8],
     at: usize,
 ) -> usize
     requires { (k < 24) × ((c : List ℕ) × (x : List ℕ)
-        × GroupOf c conflicts.now x word.now starts.now flags.now labels.now row.old at) }
+        × GroupOf c conflicts.now x group.now.word.now group.now.starts.now parts.now.flags parts.now.labels row.old at) }
     ensures { (c x : List ℕ)
-        → GroupOf c conflicts.now x word.now starts.now flags.now
-        labels.now row.old at
-        → Counts c x (apex_at flags.now labels.now k) 0 row.old
+        → GroupOf c conflicts.now x group.now.word.now group.now.starts.now parts.now.flags
+        parts.now.labels row.old at
+        → Counts c x (apex_at parts.now.flags parts.now.labels k) 0 row.old
         row.new at result }
 {
-    if !is_apex(flags, labels, k) {
+    if !parts.is_apex(k) {
         return 0;
     }
-    let from = starts[k + 1] as usize;
-    let to = starts[k + 2] as usize;
-    apex_rounds(&word[from..to], labels, k, conflicts, row, at)
+    let from = group.starts[k + 1] as usize;
+    let to = group.starts[k + 2] as usize;
+    apex_rounds(&group.word[from..to], &parts.labels, k, conflicts, row, at)
 }
 
 // The largest number that a part of a grouped core needs whose apex is command k + 1 or a later one, or `most` if that
 // is larger.
 pub fn group_rounds(
-    word: &[u8],
-    starts: &[u16; 26],
-    flags: &[u16; 24],
-    labels: &[u8; 24],
+    group: &Group<'_>,
+    parts: &Parts,
     k: usize,
     most: usize,
     conflicts: &[[u16; 24]; 24],
@@ -157,19 +144,17 @@ pub fn group_rounds(
     at: usize,
 ) -> usize
     requires { (k ≤ 24) × ((c : List ℕ) × (x : List ℕ)
-        × GroupOf c conflicts.now x word.now starts.now flags.now labels.now row.old at) }
+        × GroupOf c conflicts.now x group.now.word.now group.now.starts.now parts.now.flags parts.now.labels row.old at) }
     ensures { (c x : List ℕ)
-        → GroupOf c conflicts.now x word.now starts.now flags.now
-        labels.now row.old at
-        → Counts c x (apexes_from flags.now labels.now (24 - k) k) most
+        → GroupOf c conflicts.now x group.now.word.now group.now.starts.now parts.now.flags
+        parts.now.labels row.old at
+        → Counts c x (apexes_from parts.now.flags parts.now.labels (24 - k) k) most
         row.old row.new at result }
 {
     let mut found = most;
-    let mut j = k;
-    while j < 24 {
-        let count = rounds_at(word, starts, flags, labels, j, conflicts, row, at);
-        found = larger(found, count);
-        j += 1;
+    for j in k..24 {
+        let count = rounds_at(group, parts, j, conflicts, row, at);
+        found = found.max(count);
     }
     found
 }
@@ -177,48 +162,49 @@ pub fn group_rounds(
 // The largest number that a part needs of a core that is grouped for it, or `most` if that is larger.
 fn several_rounds(
     core: &[u8],
-    flags: &[u16; 24],
-    labels: &[u8; 24],
+    parts: &Parts,
     most: usize,
     conflicts: &[[u16; 24]; 24],
     row: &mut [u8],
     at: usize,
 ) -> usize
     requires { (c : List ℕ)
-        × CoreOf c conflicts.now core.now flags.now labels.now row.old at }
+        × CoreOf c conflicts.now core.now parts.now.flags parts.now.labels row.old at }
     ensures { (c : List ℕ)
-        → CoreOf c conflicts.now core.now flags.now labels.now
+        → CoreOf c conflicts.now core.now parts.now.flags parts.now.labels
         row.old at
-        → Counts c core.now (apexes_from flags.now labels.now 24 0) most
+        → Counts c core.now (apexes_from parts.now.flags parts.now.labels 24 0) most
         row.old row.new at result }
 {
-    let mut word = sheet();
-    let starts = group(core, labels, &mut word);
-    group_rounds(&word, &starts, flags, labels, 0, most, conflicts, row, at)
+    let mut word: [u8; 1024] = array_row::row(0);
+    let starts = group(core, &parts.labels, &mut word);
+    let whole = Group {
+        word: &word,
+        starts: &starts,
+    };
+    group_rounds(&whole, parts, 0, most, conflicts, row, at)
 }
 
 // The largest number that a part of the core needs, or `most` if that is larger. A core with one part is that part.
 pub fn most_rounds(
     core: &[u8],
-    flags: &[u16; 24],
-    labels: &[u8; 24],
+    parts: &Parts,
     most: usize,
     conflicts: &[[u16; 24]; 24],
     row: &mut [u8],
     at: usize,
 ) -> usize
     requires { (c : List ℕ)
-        × CoreOf c conflicts.now core.now flags.now labels.now row.old at }
+        × CoreOf c conflicts.now core.now parts.now.flags parts.now.labels row.old at }
     ensures { (c : List ℕ)
-        → CoreOf c conflicts.now core.now flags.now labels.now
+        → CoreOf c conflicts.now core.now parts.now.flags parts.now.labels
         row.old at
-        → Counts c core.now (apexes_from flags.now labels.now 24 0) most
+        → Counts c core.now (apexes_from parts.now.flags parts.now.labels 24 0) most
         row.old row.new at result }
 {
-    let k = lone_apex(flags, labels);
-    if 24 <= k {
-        return several_rounds(core, flags, labels, most, conflicts, row, at);
-    }
-    let count = apex_rounds(core, labels, k, conflicts, row, at);
-    larger(most, count)
+    let Some(k) = parts.lone_apex() else {
+        return several_rounds(core, parts, most, conflicts, row, at);
+    };
+    let count = apex_rounds(core, &parts.labels, k, conflicts, row, at);
+    most.max(count)
 }

@@ -68,7 +68,7 @@ module _ {c : List ℕ} {conflicts : List (List ℕ)} {x : List ℕ} (k : Cyclic
 
 -- the steps of settling a part
 
--- a sheet, with its 1,024 bytes, holds it
+-- a row of 1,024 bytes holds it
 pub part_fits : {c : List ℕ} {conflicts : List (List ℕ)} {x : List ℕ} {apex : ℕ} {y out : List ℕ} {at n : ℕ}
     → PartOf c conflicts x apex y out at → 1024 ≡ n → length y ≤ n
 part_fits {apex = apex} k e = omega (arith, ap length k.letters, part_short k.core apex, k.core.short)

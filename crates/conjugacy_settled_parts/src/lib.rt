@@ -5,7 +5,7 @@
 ghost use Rattle.std.specs.Prelude.{ℕ, ◌≤◌, List, length};
 ghost use Rattle.conjugacy_settled_parts.specs.PartOf.{PartOf, SettledOf};
 
-use array_row::{append, sheet};
+use array_row::{append, row};
 use conjugacy_settling::settle;
 
 // How many letters a part has, the end of the letters that settling it cycled, and how many rounds that took.
@@ -32,7 +32,7 @@ pub fn settle_part(
         → PartOf c conflicts.now x apex part.now cycled.old at
         → SettledOf c x apex word.new cycled.old cycled.new at result }
 {
-    let mut letters = sheet();
+    let mut letters: [u8; 1024] = row(0);
     let n = append(&mut letters, 0, part);
     let settled = settle(
         &mut letters[..n],

@@ -54,6 +54,12 @@ pub record Rounds (word₀ : List ℕ) (apex : ℕ) (conflicts : List (List ℕ)
   pub reached : (c : List ℕ) → Settleable c apex word₀ conflicts high₀ out₀ at
       → Reached c apex word₀ conflicts out₀ at raised (take lower word) (take upper high) out end rounds
 
+-- the letters that are low stand at the start of the word, and there is room to cycle them
+pub record Lows (low : ℕ) (word : List ℕ) (end : ℕ) (out : List ℕ) : Type 0 where
+  pub fits : low ≤ length word
+  pub many : low ≡ length (take low word)
+  pub room : 0 < low → end + low ≤ length out
+
 module _ {word₀ : List ℕ} {apex : ℕ} {conflicts : List (List ℕ)} {high₀ out₀ : List ℕ} {at : ℕ} where
   pub rounds_start : {raised : List ℕ} → raised ≡ empty
       → Rounds word₀ apex conflicts high₀ out₀ at word₀ raised (length word₀) high₀ 0 out₀ at 0
@@ -136,17 +142,11 @@ module _ {word₀ : List ℕ} {apex : ℕ} {conflicts : List (List ℕ)} {high�
         rounds_low : (z : List ℕ) → take ends.low (low ++ z) ≡ h.p
         rounds_low z = take-append-le ends.low low z (starts_fits h.lower) ∙ starts_take h.lower
 
-        pub rounds_many : (z : List ℕ) → ends.low ≡ length (take ends.low (low ++ z))
-        rounds_many z = starts_length h.lower ∙ ap length (sym (rounds_low z))
-
-        pub rounds_fits : (z : List ℕ) → ends.low ≤ length (low ++ z)
-        rounds_fits z = omega (arith, starts_fits h.lower, length-append low z)
-
         some_low : 0 < ends.low → ¬ (h.p ≡ [])
         some_low l e = omega (arith, h.lower.ends, ap length e)
 
         -- what is low is among the letters that there is room for
-        pub rounds_room : 0 < ends.low → end + ends.low ≤ length out
+        rounds_room : 0 < ends.low → end + ends.low ≤ length out
         rounds_room l =
             let Γ = alphabet c in
             let t = r.reached c g in
@@ -163,6 +163,13 @@ module _ {word₀ : List ℕ} {apex : ℕ} {conflicts : List (List ℕ)} {high�
               ap length j,
               length-append h.p z,
             )
+
+        pub rounds_lows : (z : List ℕ) → Lows ends.low (low ++ z) end out
+        rounds_lows z = record {
+          fits = omega (arith, starts_fits h.lower, length-append low z);
+          many = starts_length h.lower ∙ ap length (sym (rounds_low z));
+          room = rounds_room;
+        }
 
       pub rounds_done : ends.low ≡ 0 → (c : List ℕ) → Settleable c apex word₀ conflicts high₀ out₀ at
           → Ended c apex word₀ (take (length word₀) high') out₀ out at (record { end = end; rounds = rounds })

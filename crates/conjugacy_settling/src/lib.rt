@@ -25,7 +25,7 @@ pub struct Settled {
 }
 
 // One letter goes to its half. If it goes to the upper one its command is raised. A letter of a raised command needs no
-// set test: a command conflicts with itself.
+// set test: a command conflicts with itself. No struct of low, high and ends: it would hold the word that split reads.
 fn place(
     letter: u8,
     apex: usize,
@@ -75,10 +75,9 @@ fn split(
         raised.new high.new result }
 {
     let mut ends = Halves { low: 0, high: from };
-    let mut i = 0;
-    while i < word.len() {
+    // by index, since place writes into the word that is read
+    for i in 0..word.len() {
         ends = place(word[i], apex, conflicts, raised, word, high, ends);
-        i += 1;
     }
     ends
 }
@@ -105,6 +104,7 @@ pub fn settle(
     let mut upper = 0;
     let mut end = at;
     let mut rounds = 0;
+    // no for: how many rounds it takes shows only in the last
     loop {
         let ends = split(
             &mut word[..lower],

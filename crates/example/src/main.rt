@@ -18,8 +18,8 @@ fn main() {
     let mut area = [0u8; 3];
     let mut places = [0u16; 3];
     let formed = busplan::normal_form(&catalogue, &plan, &mut area, &mut places);
-    if let busplan::NormalForm::Written { length, pairs: _ } = formed {
-        show(length, places[0], places[1]);
+    if let Ok(form) = formed {
+        show(form.length, places[0], places[1]);
     } else {
         io::write_all(2, b"refused\n");
     }

@@ -4,8 +4,8 @@
 
 fn show(catalogue: &[u8], plan: &[u8], area: &mut [u8], places: &mut [u16]) {
     let formed = busplan::normal_form(catalogue, plan, area, places);
-    if let busplan::NormalForm::Written { length, pairs: _ } = formed {
-        io::write_all(1, &area[..length]);
+    if let Ok(form) = formed {
+        io::write_all(1, &area[..form.length]);
     }
 }
 

@@ -1,17 +1,14 @@
 -- From each line that does not hold to what the next check may rely on.
-use Rattle.std.specs.Prelude.{ℕ, ◌≤◌, ◌<◌, ◌≡◌, Bool, true, false, ◌||◌, List, length, ltb, eqb}
-use Rattle.std.proofs.Common.{arith, sym, ◌∙◌, ap, lt-ltb, le-ltb, eq-eqb, ne_eqb, ltb-false}
-use Rattle.std.proofs.Math.Bool.{or-true}
+use Rattle.std.specs.Prelude.{ℕ, ◌≤◌, ◌<◌, ◌≡◌, Bool, ◌||◌, List, length, ltb, eqb, Result, Ok}
+use Rattle.std.proofs.Common.{arith, sym, ◌∙◌, ap, lt-ltb, le-ltb, ltb-false}
 use Rattle.std.proofs.Math.Option.{Option, none, some}
 use Rattle.std.proofs.lemmas.Bool.{eqb-false}
 use Rattle.theory_words.specs.BoolLaws.{or_neither}
 use Rattle.spec.specs.Table.{Line, line, refused, given, or_else}
 use Rattle.spec_laws.specs.TableLaws.{none_at}
 use Rattle.input_catalogue.specs.Checked.{told_checked}
-use Rattle.spec_laws.specs.SearchLaws.{search-none, passed_line, refused_line}
+use Rattle.spec_laws.specs.SearchLaws.{search-none, passed_line}
 use Rattle.spec.specs.declared.Refusal.{Refusal}
-use Rattle.input_catalogue.specs.declared.Checked.{Checked}
-use Rattle.input_catalogue.specs.declared.Checked.TheVariants.{Passed, Refused}
 use Rattle.spec.specs.Catalogue.{commands, records, head, head_place, command, next, next_place, command_place}
 use Rattle.spec.specs.Catalogue.{or_if, size_line, count_line, records_line, head_line, next_line, record_line}
 use Rattle.spec.specs.Layout.{layout}
@@ -24,29 +21,23 @@ pub some-none : {A : Type 0} {a : A} → some a ≡ none → ⊥
 some-none e = let z : ◌≡◌ {A = ℕ} 0 1 = cc in omega arith
 
 module _ (c : List ℕ) where
-  pub decides : {l : Option Line} {k : Line} (r : Checked) → l ≡ some k → told_checked r ≡ refused k → Decides c l r
+  pub decides : {l : Option Line} {k : Line} (r : Result ℕ Refusal) → l ≡ some k → told_checked r ≡ refused k → Decides c l r
   decides r e t = t ∙ sym (ap (λ o. or_else o (commands c)) e)
 
-  pub passes : {l : Option Line} {n : ℕ} → l ≡ none → n ≡ commands c → Decides c l (Passed n)
+  pub passes : {l : Option Line} {n : ℕ} → l ≡ none → n ≡ commands c → Decides c l (Ok n)
   passes e k = ap given k ∙ sym (ap (λ o. or_else o (commands c)) e)
 
   -- a line at the place that was computed for it
-  pub decides_at : {l : Option Line} (k p : ℕ) {q : ℕ} (r : Checked) → l ≡ some (line k p q) → {i : ℕ}
+  pub decides_at : {l : Option Line} (k p : ℕ) {q : ℕ} (r : Result ℕ Refusal) → l ≡ some (line k p q) → {i : ℕ}
       → told_checked r ≡ refused (line k p i) → i ≡ q → Decides c l r
   decides_at k p r e t s = decides r e (t ∙ ap (λ (i : ℕ). refused (line k p i)) s)
 
   -- one check after another
-  pub passed_none : (l : Option Line) (r : Checked) {n : ℕ} → Decides c l r → r ≡ Passed n → l ≡ none
-  passed_none l r d e = passed_line l (commands c) (sym (ap told_checked e) ∙ d)
+  pub passed_none : (l : Option Line) {n : ℕ} → Decides c l (Ok n) → l ≡ none
+  passed_none l d = passed_line l (commands c) d
 
-  pub then_passed : (l k : Option Line) (r : Checked) → l ≡ none → Decides c k r → Decides c (or_if l k) r
+  pub then_passed : (l k : Option Line) (r : Result ℕ Refusal) → l ≡ none → Decides c k r → Decides c (or_if l k) r
   then_passed l k r e d = d ∙ sym (ap (λ o. or_else (or_if o k) (commands c)) e)
-
-  pub then_refused : (l k : Option Line) (r : Checked) {f : Refusal} → Decides c l r → r ≡ Refused f
-      → Decides c (or_if l k) r
-  then_refused l k r d e =
-      let s = refused_line l (commands c) (sym (ap told_checked e) ∙ d) in
-      d ∙ ap (λ o. or_else o (commands c)) (s ∙ sym (ap (λ o. or_if o k) s))
 
   pub frame_wrong : (length c ≡ (layout c).size → ⊥) → frame_line c ≡ some (line 1 0 0)
   frame_wrong h = ap (λ o. or_if o (or_if (count_line c) (records_line c))) (size_wrong c h)
@@ -73,16 +64,6 @@ high_next c j = ltb (records c) (next c j)
 
 abbrev pub wrong_command : List ℕ → ℕ → Bool
 wrong_command c j = eqb (command c j) 0 || ltb (commands c) (command c j)
-
-module _ (c : List ℕ) where
-  pub command_zero : (j : ℕ) → command c j ≡ 0 → wrong_command c j ≡ true
-  command_zero j e = rw (eq-eqb (command c j) 0 e)
-
-  pub command_high : (j : ℕ) → ltb (commands c) (command c j) ≡ true → wrong_command c j ≡ true
-  command_high j e = rw e (or-true (eqb (command c j) 0))
-
-  pub command_fine : (j : ℕ) → (command c j ≡ 0 → ⊥) → ltb (commands c) (command c j) ≡ false → wrong_command c j ≡ false
-  command_fine j z e = rw (ne_eqb (command c j) 0 z) e
 
 module _ (c : List ℕ) where
   pub framed_from : frame_line c ≡ none → Framed c

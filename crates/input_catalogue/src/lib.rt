@@ -1,30 +1,26 @@
 // The form of a catalogue, of either edition: `check` decides lines 1, 2, 17, 3 and 4 of the manual's table for any
-// bytes, each line over the whole catalogue before the next. The crate spec states the lines (specs/Catalogue.antt).
+// bytes, each line over the whole catalogue before the next. The crate spec states the lines (specs/Catalogue.antt). A
+// check passes with the number that the caller goes on with, here N.
 
 #![tactic(auto)]
 
-ghost use Rattle.std.specs.Prelude.{◌≡◌};
-ghost use Rattle.spec.specs.Table.{line, number_of, refused as refused_by};
+ghost use Rattle.std.specs.Prelude.{◌≡◌, ℕ, Bool, ◌≤◌, MatchOption, IfSome};
+ghost use Rattle.std.proofs.Math.Option.{none, some};
+ghost use Rattle.spec.specs.Table.{line, number_of, refused as refused_by, first_of};
 ghost use Rattle.input_catalogue.specs.Checked.{told_checked};
-ghost use Rattle.spec.specs.Catalogue.{head_line, next_line, record_line};
-ghost use Rattle.input_layout.specs.Laid.{Laid, Framed};
+ghost use Rattle.spec.specs.Catalogue.{records, head_line, next_line, record_line};
+ghost use Rattle.input_layout.specs.Laid.{Framed};
 ghost use Rattle.input_catalogue.specs.Sound.{Decides, frame_line, sound_line};
+ghost use Rattle.input_catalogue.specs.SoundLaws.{wrong_command};
 
-use input_layout::{Layout, command_of, command_place, head_of, head_place, next_of, size_of};
+use input_layout::Catalogue;
 use spec::{Reason, Refusal};
 
-// What a check of one input finds: it passes, with the number that the caller goes on with, or it is refused.
-#[derive(Clone, Copy)]
-pub enum Checked {
-    Passed(usize),
-    Refused(Refusal),
-}
-
 // The plan of this number is refused, for this reason and at this place; the catalogue counts as plan 0.
-pub fn refused(reason: Reason, plan: u8, place: usize) -> Checked
+pub fn refused(reason: Reason, plan: u8, place: usize) -> Result<usize, Refusal>
     ensures { told_checked result ≡ refused_by (line (number_of reason) plan place) }
 {
-    Checked::Refused(Refusal {
+    Err(Refusal {
         reason,
         plan,
         place,
@@ -32,89 +28,88 @@ pub fn refused(reason: Reason, plan: u8, place: usize) -> Checked
 }
 
 // Lines 1, 2 and 17.
-fn framed(c: &[u8], layout: Layout) -> Checked
-    requires { Laid c.now layout }
-    ensures { Decides c.now (frame_line c.now) result }
+fn framed(c: &Catalogue) -> Result<usize, Refusal>
+    ensures { Decides c.now.bytes.now (frame_line c.now.bytes.now) result }
 {
-    if c.len() != size_of(layout) {
+    if c.bytes.len() != c.size() {
         return refused(Reason::CatalogueSize, 0, 0);
     }
-    if 24 < layout.commands {
+    if 24 < c.layout.commands {
         return refused(Reason::CommandCount, 0, 0);
     }
-    if 1024 < layout.records {
+    if 1024 < c.layout.records {
         return refused(Reason::RecordCount, 0, 1);
     }
-    Checked::Passed(layout.commands)
+    Ok(c.layout.commands)
 }
 
-// Line 3 for the heads.
-fn heads(c: &[u8], layout: Layout) -> Checked
-    requires fact_1 { Laid c.now layout }
-    requires fact_2 { Framed c.now }
-    ensures { Decides c.now (head_line c.now) result }
+// The first number from 1 to n that is wrong, if one is.
+pub fn first_wrong<F: Fn(usize) -> bool>(n: usize, wrong: F) -> Option<usize>
+    requires small { n ≤ 65535 }
+    requires callable { (i : ℕ) → 1 ≤ i → i ≤ n → F.pre wrong i }
+    ensures first { (p : ℕ → Bool) → ((i : ℕ) (b : Bool) → 1 ≤ i → i ≤ n → F.post wrong i b → b ≡ p i)
+        → MatchOption result (first_of p n 1 ≡ none) (λ i. first_of p n 1 ≡ some i) }
+    ensures in_range { IfSome result (λ i. (1 ≤ i) × (i ≤ n)) }
 {
-    let mut a = 1;
-    while a <= layout.commands {
-        if layout.records < head_of(c, layout, a) {
-            let place = head_place(layout, a);
-            return refused(Reason::Index, 0, place);
+    for i in 1..n + 1 {
+        if wrong(i) {
+            return Some(i);
         }
-        a += 1;
     }
-    Checked::Passed(layout.commands)
+    None
+}
+
+// Framed stays a clause: as a type it would be one more struct of the same bytes, which only proofs tell apart.
+
+// Line 3 for the heads.
+fn heads(c: &Catalogue) -> Result<usize, Refusal>
+    requires { Framed c.now.bytes.now }
+    ensures { Decides c.now.bytes.now (head_line c.now.bytes.now) result }
+{
+    match first_wrong(c.layout.commands, |a| c.layout.records < c.head_of(a)) {
+        None => Ok(c.layout.commands),
+        Some(a) => refused(Reason::Index, 0, c.head_place(a)),
+    }
 }
 
 // Line 3 for the records.
-fn nexts(c: &[u8], layout: Layout) -> Checked
-    requires fact_1 { Laid c.now layout }
-    requires fact_2 { Framed c.now }
-    ensures { Decides c.now (next_line c.now) result }
+fn nexts(c: &Catalogue) -> Result<usize, Refusal>
+    requires { Framed c.now.bytes.now }
+    ensures { Decides c.now.bytes.now (next_line c.now.bytes.now) result }
 {
-    let mut j = 1;
-    while j <= layout.records {
-        if layout.records < next_of(c, layout, j) {
-            return refused(Reason::Index, 0, command_place(layout, j) + 1);
-        }
-        j += 1;
+    match first_wrong(c.layout.records, |j| c.layout.records < c.next_of(j)) {
+        None => Ok(c.layout.commands),
+        Some(j) => refused(Reason::Index, 0, c.command_place(j) + 1),
     }
-    Checked::Passed(layout.commands)
+}
+
+// Whether the record of number j names no command.
+fn names_none(c: &Catalogue, j: usize) -> bool
+    requires framed { Framed c.now.bytes.now }
+    requires in_range { (1 ≤ j) × (j ≤ records c.now.bytes.now) }
+    ensures { result ≡ wrong_command c.now.bytes.now j }
+{
+    let k = c.command_of(j);
+    k == 0 || c.layout.commands < k
 }
 
 // Line 4.
-fn named(c: &[u8], layout: Layout) -> Checked
-    requires fact_1 { Laid c.now layout }
-    requires fact_2 { Framed c.now }
-    ensures { Decides c.now (record_line c.now) result }
+fn named(c: &Catalogue) -> Result<usize, Refusal>
+    requires { Framed c.now.bytes.now }
+    ensures { Decides c.now.bytes.now (record_line c.now.bytes.now) result }
 {
-    let mut j = 1;
-    while j <= layout.records {
-        let k = command_of(c, layout, j);
-        if k == 0 || layout.commands < k {
-            let place = command_place(layout, j);
-            return refused(Reason::RecordCommand, 0, place);
-        }
-        j += 1;
+    match first_wrong(c.layout.records, |j| names_none(c, j)) {
+        None => Ok(c.layout.commands),
+        Some(j) => refused(Reason::RecordCommand, 0, c.command_place(j)),
     }
-    Checked::Passed(layout.commands)
 }
 
 // Lines 1, 2, 17, 3 and 4.
-pub fn check(c: &[u8], layout: Layout) -> Checked
-    requires { Laid c.now layout }
-    ensures { Decides c.now (sound_line c.now) result }
+pub fn check(c: &Catalogue) -> Result<usize, Refusal>
+    ensures { Decides c.now.bytes.now (sound_line c.now.bytes.now) result }
 {
-    let frame = framed(c, layout);
-    let Checked::Passed(_) = frame else {
-        return frame;
-    };
-    let head = heads(c, layout);
-    let Checked::Passed(_) = head else {
-        return head;
-    };
-    let next = nexts(c, layout);
-    let Checked::Passed(_) = next else {
-        return next;
-    };
-    named(c, layout)
+    framed(c)?;
+    heads(c)?;
+    nexts(c)?;
+    named(c)
 }

@@ -1,6 +1,6 @@
 -- Marking in rows of 24 numbers: two commands that conflict are marked in the rows of both, and which commands stand in
 -- the chain of command a is noted in row a.
-use Rattle.std.specs.Prelude.{ℕ, zero, suc, ◌+◌, ◌-◌, ◌<◌, ◌≡◌, List, [], ◌∷◌, length, get_or, set}
+use Rattle.std.specs.Prelude.{ℕ, zero, suc, ◌+◌, ◌-◌, ◌<◌, ◌≤◌, ◌≡◌, List, [], ◌∷◌, length, get_or, set}
 
 abbrev pub cell : List (List ℕ) → ℕ → ℕ → ℕ
 cell rows i j = get_or (get_or rows i []) j 0
@@ -8,6 +8,10 @@ cell rows i j = get_or (get_or rows i []) j 0
 pub record Shape (rows : List (List ℕ)) : Type 0 where
   pub tall : length rows ≡ 24
   pub wide : (i : ℕ) → i < 24 → length (get_or rows i []) ≡ 24
+
+-- a command that has a row
+abbrev pub InRows : ℕ → Type 0
+InRows a = (1 ≤ a) × (a ≤ 24)
 
 -- a mark in row i at place j
 abbrev pub put : List (List ℕ) → ℕ → ℕ → List (List ℕ)

@@ -8,7 +8,7 @@ use Rattle.std.proofs.Math.ListN.{get_or, drop, drop_of_length-le}
 use Rattle.std.proofs.Math.Seq.{drop-cons}
 use Rattle.spec.specs.Catalogue.{stands}
 use Rattle.spec.specs.Answers.{yes_no}
-use Rattle.input_chains.specs.Marking.{Shape, pairs, member, members, marked_if}
+use Rattle.input_chains.specs.Marking.{Shape, pair, pairs, member, members, marked_if}
 use Rattle.input_chains.specs.MarkingLaws.{Fit, pair_shape}
 
 -- the members of a row of flags
@@ -50,6 +50,15 @@ marked_more : (f : ℕ) (rows : List (List ℕ)) (a j : ℕ) (ms : List ℕ)
 unfolding pairs
 marked_more zero rows a j ms = refl
 marked_more (suc f) rows a j ms = refl
+
+-- a flag that is set, or not
+pub marked_yes : (f : ℕ) (rows : List (List ℕ)) (a b : ℕ) → (f ≡ 0 → ⊥) → pair rows a b ≡ marked_if f rows a b
+marked_yes zero rows a b n = absurd (n refl)
+marked_yes (suc k) rows a b n = refl
+
+pub marked_no : (f : ℕ) (rows : List (List ℕ)) (a b : ℕ) → f ≡ 0 → rows ≡ marked_if f rows a b
+marked_no zero rows a b e = refl
+marked_no (suc k) rows a b e = absurd (omega arith)
 
 -- the members from j on are still to be marked
 pub record MarkingMembers (a : ℕ) (line : List ℕ) (rows₀ rows : List (List ℕ)) (j : ℕ) : Type 0 where

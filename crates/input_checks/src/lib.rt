@@ -12,39 +12,35 @@ ghost use Rattle.spec.specs.Plan.{plan_lines};
 ghost use Rattle.input_conflicts.specs.MarkedRows.{Blank};
 ghost use Rattle.input_checks.specs.Entry.{Told, OnePlan, TwoPlans, ThreePlans};
 
-use input_catalogue::Checked;
 use spec::{Reason, Refusal};
 
-// One more plan, of this number and of at most so many bytes, after the checks before it. A refusal of any of them is
-// passed on untouched.
-fn next_plan(earlier: Checked, plan: &[u8], number: u8, limit: usize) -> Checked
-    ensures { (c : List ℕ) (ls : List (Option Line)) → Told c ls earlier
-        → Told c (ls ++ plan_lines number limit (commands c) plan.now) result }
-{
-    let Checked::Passed(commands) = earlier else {
-        return earlier;
-    };
-    let checked = input_plan::check(plan, commands, number, limit);
-    let Checked::Passed(_) = checked else {
-        return checked;
-    };
-    earlier
-}
-
 // Lines 1 to 8 and 17 for one plan.
-pub fn one_plan(catalogue: &[u8], plan: &[u8], conflicts: &mut [[u16; 24]; 24]) -> Checked
+pub fn one_plan(
+    catalogue: &[u8],
+    plan: &[u8],
+    conflicts: &mut [[u16; 24]; 24],
+) -> Result<usize, Refusal>
     requires { Blank conflicts.old }
     ensures { OnePlan catalogue.now plan.now conflicts.new result }
 {
-    next_plan(input_conflicts::read(catalogue, conflicts), plan, 1, 1024)
+    let commands = input_conflicts::read(catalogue, conflicts)?;
+    input_plan::check(plan, commands, 1, 1024)?;
+    Ok(commands)
 }
 
 // Lines 1 to 8 and 17 for two plans, the first before the second.
-pub fn two_plans(catalogue: &[u8], v: &[u8], w: &[u8], conflicts: &mut [[u16; 24]; 24]) -> Checked
+pub fn two_plans(
+    catalogue: &[u8],
+    v: &[u8],
+    w: &[u8],
+    conflicts: &mut [[u16; 24]; 24],
+) -> Result<usize, Refusal>
     requires { Blank conflicts.old }
     ensures { TwoPlans catalogue.now v.now w.now conflicts.new result }
 {
-    next_plan(one_plan(catalogue, v, conflicts), w, 2, 1024)
+    let commands = one_plan(catalogue, v, conflicts)?;
+    input_plan::check(w, commands, 2, 1024)?;
+    Ok(commands)
 }
 
 // Lines 1 to 8 and 17 for two plans and a lead-in.
@@ -54,12 +50,14 @@ pub fn three_plans(
     w: &[u8],
     u: &[u8],
     conflicts: &mut [[u16; 24]; 24],
-) -> Checked
+) -> Result<usize, Refusal>
     requires { Blank conflicts.old }
     ensures { ThreePlans catalogue.now v.now w.now u.now
         conflicts.new result }
 {
-    next_plan(two_plans(catalogue, v, w, conflicts), u, 3, 49152)
+    let commands = two_plans(catalogue, v, w, conflicts)?;
+    input_plan::check(u, commands, 3, 49152)?;
+    Ok(commands)
 }
 
 // The refusal of an area that is too small.

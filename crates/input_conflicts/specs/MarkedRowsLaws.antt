@@ -31,15 +31,17 @@ ltb_more x a = go (ℕ_discrete x a) (dec_lt x a)
     go (no e) (no h) = rw (ne_eqb x a e, le-ltb x a (omega arith)) (le-ltb x (suc a) (omega arith))
 
 -- a mark on the diagonal
+
+pub diagonal_more : (rows : List (List ℕ)) (i : ℕ) {rows' : List (List ℕ)} → rows' ≡ diagonal rows i
+    → put rows' i i ≡ diagonal rows (i + 1)
+unfolding diagonal
+diagonal_more rows i e = rw (e, add-one i)
+
 module _ (rows : List (List ℕ)) (s : Shape rows) where
   pub diagonal_shape : (k : ℕ) → k ≤ 24 → Shape (diagonal rows k)
   unfolding diagonal
   diagonal_shape zero h = s
   diagonal_shape (suc k) h = put_shape (diagonal rows k) (diagonal_shape k (omega arith)) k k h h
-
-  pub diagonal_more : (i : ℕ) {rows' : List (List ℕ)} → rows' ≡ diagonal rows i → put rows' i i ≡ diagonal rows (i + 1)
-  unfolding diagonal
-  diagonal_more i e = rw (e, add-one i)
 
   pub diagonal-cell : (k : ℕ) → k ≤ 24 → (i j : ℕ)
       → cell (diagonal rows k) i j ≡ over (ltb i k && eqb i j) (cell rows i j)

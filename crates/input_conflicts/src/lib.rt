@@ -6,100 +6,85 @@
 ghost use Rattle.std.specs.Prelude.{◌≡◌, true, ◌+◌, ◌-◌, ◌<◌, ◌≤◌, length};
 ghost use Rattle.std.proofs.Math.Option.{none};
 ghost use Rattle.spec.specs.Catalogue.{commands, records, head, ends, endless_line, own_line};
-ghost use Rattle.input_layout.specs.Laid.{Laid, Framed};
+ghost use Rattle.input_layout.specs.Laid.{Framed};
 ghost use Rattle.input_catalogue.specs.Sound.{Decides, Sound};
-ghost use Rattle.input_chains.specs.Marking.{Shape};
 ghost use Rattle.input_conflicts.specs.MarkedRows.{Blank, Met, diagonal as diagonalOf};
 ghost use Rattle.input_conflicts.specs.Known.{NoneKnown, Chained, Known};
 ghost use Rattle.input_conflicts.specs.Reading.{Reading};
 
-use input_catalogue::{Checked, refused};
+use input_catalogue::{first_wrong, refused};
 use input_chains::{mark_like, walk};
-use input_layout::{Layout, head_of, head_place, layout_of};
-use spec::Reason;
+use input_layout::Catalogue;
+use spec::{Reason, Refusal};
 
 // The chain of command a: walked, or marked as that of the first command with the same head. Tells whether it ends.
 fn chain_of(
-    c: &[u8],
-    layout: Layout,
+    c: &Catalogue,
     a: usize,
     rows: &mut [[u16; 24]; 24],
     own: &mut [[u16; 24]; 24],
     firsts: &mut [u8],
 ) -> bool
-    requires fact_1 { Laid c.now layout × Sound c.now }
-    requires fact_2 { Chained c.now a rows.old }
-    requires fact_3 { Known c.now a own.old firsts.old }
-    requires fact_4 { 1 ≤ a }
-    requires fact_5 { a ≤ commands c.now }
-    ensures value { result ≡ ends c.now (records c.now) (head c.now a) }
-    ensures chained { result ≡ true → Chained c.now (a + 1) rows.new }
-    ensures known { result ≡ true → Known c.now (a + 1) own.new firsts.new }
+    requires sound { Sound c.now.bytes.now }
+    requires chained { Chained c.now.bytes.now a rows.old }
+    requires known { Known c.now.bytes.now a own.old firsts.old }
+    requires in_range { (1 ≤ a) × (a ≤ commands c.now.bytes.now) }
+    ensures value { result ≡ ends c.now.bytes.now (records c.now.bytes.now) (head c.now.bytes.now a) }
+    ensures chained { result ≡ true → Chained c.now.bytes.now (a + 1) rows.new }
+    ensures known { result ≡ true → Known c.now.bytes.now (a + 1) own.new firsts.new }
 {
-    let h = head_of(c, layout, a);
+    let h = c.head_of(a);
     let b = firsts[h] as usize;
     if b != 0 {
         mark_like(own, b, a, rows);
         return true;
     }
     firsts[h] = a as u8;
-    walk(c, layout, a, rows, own)
+    walk(c, a, rows, own)
 }
 
 // Line 5.
 fn each_chain(
-    c: &[u8],
-    layout: Layout,
+    c: &Catalogue,
     rows: &mut [[u16; 24]; 24],
     own: &mut [[u16; 24]; 24],
     firsts: &mut [u8],
-) -> Checked
-    requires fact_1 { Laid c.now layout × Sound c.now }
-    requires fact_2 { Blank rows.old }
-    requires fact_3 { Blank own.old }
-    requires fact_4 { NoneKnown firsts.old }
-    requires fact_5 { records c.now < length firsts.old }
-    ensures decides { Decides c.now (endless_line c.now) result }
-    ensures met { endless_line c.now ≡ none → Met c.now rows.new }
+) -> Result<usize, Refusal>
+    requires sound { Sound c.now.bytes.now }
+    requires blank { Blank rows.old }
+    requires own_blank { Blank own.old }
+    requires none_known { NoneKnown firsts.old }
+    requires room { records c.now.bytes.now < length firsts.old }
+    ensures decides { Decides c.now.bytes.now (endless_line c.now.bytes.now) result }
+    ensures met { endless_line c.now.bytes.now ≡ none → Met c.now.bytes.now rows.new }
 {
-    let mut a = 1;
-    while a <= layout.commands {
-        if !chain_of(c, layout, a, rows, own, firsts) {
-            let place = head_place(layout, a);
+    for a in 1..c.layout.commands + 1 {
+        if !chain_of(c, a, rows, own, firsts) {
+            let place = c.head_place(a);
             return refused(Reason::EndlessChain, 0, place);
         }
-        a += 1;
     }
-    Checked::Passed(layout.commands)
+    Ok(c.layout.commands)
 }
 
 // Line 6: a command that stands in its own chain is marked against itself.
-fn own_chain(c: &[u8], layout: Layout, rows: &[[u16; 24]; 24]) -> Checked
-    requires fact_1 { Laid c.now layout }
-    requires fact_2 { Framed c.now }
-    requires fact_3 { Met c.now rows.now }
-    ensures { Decides c.now (own_line c.now) result }
+fn own_chain(c: &Catalogue, rows: &[[u16; 24]; 24]) -> Result<usize, Refusal>
+    requires framed { Framed c.now.bytes.now }
+    requires met { Met c.now.bytes.now rows.now }
+    ensures { Decides c.now.bytes.now (own_line c.now.bytes.now) result }
 {
-    let mut a = 1;
-    while a <= layout.commands {
-        if rows[a - 1][a - 1] != 0 {
-            let place = head_place(layout, a);
-            return refused(Reason::OwnChain, 0, place);
-        }
-        a += 1;
+    match first_wrong(c.layout.commands, |a| rows[a - 1][a - 1] != 0) {
+        None => Ok(c.layout.commands),
+        Some(a) => refused(Reason::OwnChain, 0, c.head_place(a)),
     }
-    Checked::Passed(layout.commands)
 }
 
 // Marks every command against itself.
 fn diagonal(rows: &mut [[u16; 24]; 24])
-    requires { Shape rows.old }
     ensures { rows.new ≡ diagonalOf rows.old 24 }
 {
-    let mut i = 0;
-    while i < 24 {
-        rows[i][i] = 1;
-        i += 1;
+    for (i, row) in rows.iter_mut().enumerate() {
+        row[i] = 1;
     }
 }
 
@@ -110,56 +95,40 @@ pub fn blank() -> [[u16; 24]; 24]
     [[0; 24]; 24]
 }
 
-// No command known for any head of up to 255.
-fn few_known() -> [u8; 256]
+// No command known for any head below N, which 0 stands for.
+// No Option: commands count from 1 in the manual, so that 0 is free, and an Option would be twice the bytes to clear.
+fn none_known<const N: usize>() -> [u8; N]
     ensures none { NoneKnown result }
-    ensures long { length result ≡ 256 }
+    ensures long { length result ≡ N }
 {
-    [0; 256]
-}
-
-// No command known for any head of up to 1,024.
-fn many_known() -> [u8; 1025]
-    ensures none { NoneKnown result }
-    ensures long { length result ≡ 1025 }
-{
-    [0; 1025]
+    [0; N]
 }
 
 // Line 5, with room for the heads that R records can have.
-fn chains(c: &[u8], layout: Layout, rows: &mut [[u16; 24]; 24]) -> Checked
-    requires fact_1 { Laid c.now layout × Sound c.now }
-    requires fact_2 { Blank rows.old }
-    ensures decides { Decides c.now (endless_line c.now) result }
-    ensures met { endless_line c.now ≡ none → Met c.now rows.new }
+fn chains(c: &Catalogue, rows: &mut [[u16; 24]; 24]) -> Result<usize, Refusal>
+    requires sound { Sound c.now.bytes.now }
+    requires blank { Blank rows.old }
+    ensures decides { Decides c.now.bytes.now (endless_line c.now.bytes.now) result }
+    ensures met { endless_line c.now.bytes.now ≡ none → Met c.now.bytes.now rows.new }
 {
     let mut own = blank();
-    if layout.records < 256 {
-        let mut firsts = few_known();
-        return each_chain(c, layout, rows, &mut own, &mut firsts);
+    if c.layout.records < 256 {
+        let mut firsts = none_known::<256>();
+        return each_chain(c, rows, &mut own, &mut firsts);
     }
-    let mut firsts = many_known();
-    each_chain(c, layout, rows, &mut own, &mut firsts)
+    let mut firsts = none_known::<1025>();
+    each_chain(c, rows, &mut own, &mut firsts)
 }
 
-// Reads a catalogue of any bytes. Passed carries N, and then the rows hold the conflicts.
-pub fn read(catalogue: &[u8], conflicts: &mut [[u16; 24]; 24]) -> Checked
+// Reads a catalogue of any bytes. Ok carries N, and then the rows hold the conflicts.
+pub fn read(catalogue: &[u8], conflicts: &mut [[u16; 24]; 24]) -> Result<usize, Refusal>
     requires { Blank conflicts.old }
     ensures { Reading catalogue.now conflicts.new result }
 {
-    let layout = layout_of(catalogue);
-    let sound = input_catalogue::check(catalogue, layout);
-    let Checked::Passed(_) = sound else {
-        return sound;
-    };
-    let chained = chains(catalogue, layout, conflicts);
-    let Checked::Passed(_) = chained else {
-        return chained;
-    };
-    let owned = own_chain(catalogue, layout, conflicts);
-    let Checked::Passed(n) = owned else {
-        return owned;
-    };
+    let c = Catalogue::of(catalogue);
+    input_catalogue::check(&c)?;
+    chains(&c, conflicts)?;
+    let commands = own_chain(&c, conflicts)?;
     diagonal(conflicts);
-    Checked::Passed(n)
+    Ok(commands)
 }

@@ -1,5 +1,5 @@
-// How the bytes of a catalogue are laid out, in either edition: `layout_of` makes the layout once from the first bytes,
-// and the heads and records are then read at the places that it gives. The crate spec defines both editions
+// How the bytes of a catalogue are laid out, in either edition: `Catalogue::of` makes the layout once from the first
+// bytes, and the heads and records are then read at the places that it gives. The crate spec defines both editions
 // (specs/Layout.antt).
 
 #![tactic(auto)]
@@ -10,11 +10,20 @@ ghost use Rattle.spec.specs.Catalogue.{commands, records, head_place, command_pl
 ghost use Rattle.input_layout.specs.Laid.{Laid, Framed};
 
 // N and R, and how many bytes an index takes: one in the first edition, two in the second.
+// The width is no enum: it is a number of bytes, which the bounds of the index add, and the manual's two forms test it.
 #[derive(Clone, Copy)]
 pub struct Layout {
     pub commands: usize,
     pub records: usize,
     pub width: usize,
+}
+
+// A catalogue of any bytes, and the layout that they have.
+#[derive(Clone, Copy)]
+pub struct Catalogue<'a> {
+    pub bytes: &'a [u8],
+    pub layout: Layout,
+    pub ghost laid: { Laid bytes.now layout },
 }
 
 // The byte at place i, and 0 past the end.
@@ -38,7 +47,7 @@ pub fn pair_at(s: &[u8], i: usize) -> usize
 }
 
 // The layout of any bytes: a first byte of 128 or more is that of the second edition.
-pub fn layout_of(c: &[u8]) -> Layout
+fn layout_of(c: &[u8]) -> Layout
     ensures { Laid c.now result }
 {
     let first = byte_at(c, 0);
@@ -58,87 +67,89 @@ pub fn layout_of(c: &[u8]) -> Layout
     }
 }
 
-// The bytes of the whole catalogue: 2 + N + 2R, in the second edition 3 + 2N + 3R.
-pub fn size_of(layout: Layout) -> usize
-    requires { (c : List ℕ) × Laid c layout }
-    ensures size { (c : List ℕ) → Laid c layout → result ≡ (layoutIn c).size }
-    ensures near { result ≤ 200000 }
-{
-    if layout.width == 1 {
-        return 2 + layout.commands + 2 * layout.records;
+impl<'a> Catalogue<'a> {
+    // The catalogue of any bytes.
+    pub fn of(bytes: &'a [u8]) -> Catalogue<'a>
+        ensures { result.bytes.now ≡ bytes.now }
+    {
+        let layout = layout_of(bytes);
+        Catalogue { bytes, layout }
     }
-    3 + 2 * layout.commands + 3 * layout.records
-}
 
-// The place of the head of command a.
-pub fn head_place(layout: Layout, a: usize) -> usize
-    requires { (c : List ℕ) × Laid c layout × (a ≤ commands c) }
-    ensures { (c : List ℕ) → Laid c layout → result ≡ head_place c a }
-{
-    if layout.width == 1 {
-        return 1 + a;
+    // The bytes of the whole catalogue: 2 + N + 2R, in the second edition 3 + 2N + 3R.
+    pub fn size(&self) -> usize
+        ensures size { result ≡ (layoutIn self.now.bytes.now).size }
+        ensures near { result ≤ 200000 }
+    {
+        if self.layout.width == 1 {
+            return 2 + self.layout.commands + 2 * self.layout.records;
+        }
+        3 + 2 * self.layout.commands + 3 * self.layout.records
     }
-    1 + 2 * a
-}
 
-// The place of the command of record j; its next index stands behind it.
-pub fn command_place(layout: Layout, j: usize) -> usize
-    requires { (c : List ℕ) × Laid c layout × (j ≤ records c) }
-    ensures place { (c : List ℕ) → Laid c layout → result ≡ command_place c j }
-    ensures near { result ≤ 200000 }
-{
-    if layout.width == 1 {
-        return layout.commands + 2 * j;
+    // The place of the head of command a.
+    pub fn head_place(&self, a: usize) -> usize
+        requires { a ≤ commands self.now.bytes.now }
+        ensures { result ≡ head_place self.now.bytes.now a }
+    {
+        if self.layout.width == 1 {
+            return 1 + a;
+        }
+        1 + 2 * a
     }
-    2 * layout.commands + 3 * j
-}
 
-// The index that stands at place i.
-fn index_at(c: &[u8], layout: Layout, i: usize) -> usize
-    requires fact_1 { Laid c.now layout }
-    requires fact_2 { i + layout.width ≤ length c.now }
-    ensures index { result ≡ (layoutIn c.now).index_at i }
-    ensures small { result < 65536 }
-{
-    let low = c[i] as usize;
-    if layout.width == 1 {
-        return low;
+    // The place of the command of record j; its next index stands behind it.
+    pub fn command_place(&self, j: usize) -> usize
+        requires { j ≤ records self.now.bytes.now }
+        ensures place { result ≡ command_place self.now.bytes.now j }
+        ensures near { result ≤ 200000 }
+    {
+        if self.layout.width == 1 {
+            return self.layout.commands + 2 * j;
+        }
+        2 * self.layout.commands + 3 * j
     }
-    low + 256 * (c[i + 1] as usize)
-}
 
-// The head of command a.
-pub fn head_of(c: &[u8], layout: Layout, a: usize) -> usize
-    requires fact_1 { Laid c.now layout }
-    requires fact_2 { Framed c.now }
-    requires fact_3 { (1 ≤ a) × (a ≤ commands c.now) }
-    ensures head { result ≡ head c.now a }
-    ensures small { result < 65536 }
-{
-    let place = head_place(layout, a);
-    index_at(c, layout, place)
-}
+    // The index that stands at place i.
+    fn index_at(&self, i: usize) -> usize
+        requires { i + self.now.layout.width ≤ length self.now.bytes.now }
+        ensures index { result ≡ (layoutIn self.now.bytes.now).index_at i }
+        ensures small { result < 65536 }
+    {
+        let low = self.bytes[i] as usize;
+        if self.layout.width == 1 {
+            return low;
+        }
+        low + 256 * (self.bytes[i + 1] as usize)
+    }
 
-// The command of record j.
-pub fn command_of(c: &[u8], layout: Layout, j: usize) -> usize
-    requires fact_1 { Laid c.now layout }
-    requires fact_2 { Framed c.now }
-    requires fact_3 { (1 ≤ j) × (j ≤ records c.now) }
-    ensures command { result ≡ command c.now j }
-    ensures small { result < 256 }
-{
-    let place = command_place(layout, j);
-    c[place] as usize
-}
+    // The head of command a.
+    pub fn head_of(&self, a: usize) -> usize
+        requires framed { Framed self.now.bytes.now }
+        requires in_range { (1 ≤ a) × (a ≤ commands self.now.bytes.now) }
+        ensures head { result ≡ head self.now.bytes.now a }
+        ensures small { result < 65536 }
+    {
+        self.index_at(self.head_place(a))
+    }
 
-// The next index of record j.
-pub fn next_of(c: &[u8], layout: Layout, j: usize) -> usize
-    requires fact_1 { Laid c.now layout }
-    requires fact_2 { Framed c.now }
-    requires fact_3 { (1 ≤ j) × (j ≤ records c.now) }
-    ensures next { result ≡ next c.now j }
-    ensures small { result < 65536 }
-{
-    let place = command_place(layout, j);
-    index_at(c, layout, place + 1)
+    // The command of record j.
+    pub fn command_of(&self, j: usize) -> usize
+        requires framed { Framed self.now.bytes.now }
+        requires in_range { (1 ≤ j) × (j ≤ records self.now.bytes.now) }
+        ensures command { result ≡ command self.now.bytes.now j }
+        ensures small { result < 256 }
+    {
+        self.bytes[self.command_place(j)] as usize
+    }
+
+    // The next index of record j.
+    pub fn next_of(&self, j: usize) -> usize
+        requires framed { Framed self.now.bytes.now }
+        requires in_range { (1 ≤ j) × (j ≤ records self.now.bytes.now) }
+        ensures next { result ≡ next self.now.bytes.now j }
+        ensures small { result < 65536 }
+    {
+        self.index_at(self.command_place(j) + 1)
+    }
 }

@@ -2,3 +2,4 @@ pub mod FaultLaws
 pub mod Place
 pub mod Lettered
 pub mod LetteredLaws
+pub mod PlaceLaws

@@ -1,9 +1,8 @@
--- What the search for a byte that does not pass finds.
-use Rattle.std.specs.Prelude.{ℕ}
+-- What the search for a byte that does not pass finds: its place, if there is one.
+use Rattle.std.specs.Prelude.{ℕ, None, Some}
+use Rattle.std.specs.Prelude.{Option as Found}
 use Rattle.std.proofs.Math.Option.{Option, none, some}
-use Rattle.input_plan.specs.declared.Place.{Place}
-use Rattle.input_plan.specs.declared.Place.TheVariants.{Nowhere, At}
 
-abbrev pub told_place : Place → Option ℕ
-told_place Nowhere = none
-told_place (At i) = some i
+abbrev pub told_place : Found ℕ → Option ℕ
+told_place None = none
+told_place (Some i) = some i

@@ -3,22 +3,15 @@
 
 #![tactic(auto)]
 
-ghost use Rattle.std.specs.Prelude.{◌<◌, ◌≡◌, true, ◌↔◌, length};
+ghost use Rattle.std.specs.Prelude.{◌<◌, ◌≡◌, true, not, ◌↔◌, length, position};
 ghost use Rattle.spec.specs.Table.{or_else, first_line};
 ghost use Rattle.input_catalogue.specs.Checked.{told_checked};
 ghost use Rattle.spec.specs.Plan.{passes, first_bad, plan_lines, Passing};
 ghost use Rattle.spec.specs.Byte.{undone};
 ghost use Rattle.input_plan.specs.Place.{told_place};
 
-use input_catalogue::{Checked, refused};
-use spec::Reason;
-
-// Where a byte stands that does not pass.
-#[derive(Clone, Copy)]
-enum Place {
-    Nowhere,
-    At(usize),
-}
+use input_catalogue::refused;
+use spec::{Reason, Refusal};
 
 // Does line 8 let this byte pass, with so many commands.
 fn passing(b: u8, commands: usize) -> bool
@@ -34,63 +27,47 @@ fn passing(b: u8, commands: usize) -> bool
     k - 128 <= commands
 }
 
-// 0 for a byte that passes, 1 for one that does not.
-fn fault(b: u8, commands: u8) -> u8
+// Whether a byte does not pass, with fewer than 128 commands.
+// Not `passing`, which is for any number of commands: here all is bytes, and neither contract serves both callers.
+fn fails(b: u8, commands: u8) -> bool
     requires { commands < 128 }
-    ensures { (result ≡ 0) ↔ (passes commands b ≡ true) }
+    ensures { result ≡ not (passes commands b) }
 {
-    if b == 128 {
-        return 1;
-    }
-    if commands < b % 128 {
-        return 1;
-    }
-    0
+    b == 128 || commands < b % 128
 }
 
-// Whether every byte passes. The faults are gathered, with no way out of the loop, so that many bytes are tested at a
+// Whether every byte passes. What fails is gathered, with no way out of the loop, so that many bytes are tested at a
 // time.
 fn all_pass(plan: &[u8], commands: u8) -> bool
     requires { commands < 128 }
     ensures { (result ≡ true) ↔ Passing commands plan.now }
 {
-    let mut faults: u8 = 0;
-    let mut j = 0;
-    while j < plan.len() {
-        faults |= fault(plan[j], commands);
-        j += 1;
+    let mut failed = false;
+    for b in plan {
+        failed |= fails(*b, commands);
     }
-    faults == 0
+    !failed
 }
 
 // The first byte that does not pass, byte by byte.
-fn find_bad(plan: &[u8], commands: usize) -> Place
-    ensures { told_place result ≡ first_bad commands plan.now }
+fn find_bad(plan: &[u8], commands: usize) -> Option<usize>
+    ensures { result ≡ position (λ b. not (passes commands b)) plan.now }
 {
-    let mut i = 0;
-    while i < plan.len() {
-        if !passing(plan[i], commands) {
-            return Place::At(i);
-        }
-        i += 1;
-    }
-    Place::Nowhere
+    plan.iter().position(|b| !passing(*b, commands))
 }
 
 // The first byte that does not pass. Where there is none the byte by byte search is spared.
-fn first_bad(plan: &[u8], commands: usize) -> Place
+fn first_bad(plan: &[u8], commands: usize) -> Option<usize>
     ensures { told_place result ≡ first_bad commands plan.now }
 {
-    if commands < 128 {
-        if all_pass(plan, commands as u8) {
-            return Place::Nowhere;
-        }
+    if commands < 128 && all_pass(plan, commands as u8) {
+        return None;
     }
     find_bad(plan, commands)
 }
 
 // Lines 7 and 8 for the plan of this number, of at most so many bytes; a plan that passes gives its length.
-pub fn check(plan: &[u8], commands: usize, number: u8, limit: usize) -> Checked
+pub fn check(plan: &[u8], commands: usize, number: u8, limit: usize) -> Result<usize, Refusal>
     ensures { told_checked result
         ≡ or_else (first_line (plan_lines number limit commands plan.now)) (length plan.now) }
 {
@@ -98,8 +75,8 @@ pub fn check(plan: &[u8], commands: usize, number: u8, limit: usize) -> Checked
         return refused(Reason::PlanSize, number, 0);
     }
     match first_bad(plan, commands) {
-        Place::Nowhere => Checked::Passed(plan.len()),
-        Place::At(i) => refused(Reason::PlanByte, number, i),
+        None => Ok(plan.len()),
+        Some(i) => refused(Reason::PlanByte, number, i),
     }
 }
 

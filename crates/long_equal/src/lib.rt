@@ -7,14 +7,7 @@ ghost use Rattle.long_equal.specs.Comparing.{Comparable, Compared};
 
 use array_row::same_bytes;
 use long_product::product;
-
-// Whether the two normal forms are equal, and their lengths.
-#[derive(Clone, Copy)]
-pub struct Both {
-    pub same: bool,
-    pub vu: usize,
-    pub uw: usize,
-}
+use spec::LeadIn;
 
 // Writes the normal form of v·u at the start of area0 and that of u·w at the start of area1, and compares them.
 pub fn compare(
@@ -24,7 +17,7 @@ pub fn compare(
     conflicts: &[[u16; 24]; 24],
     area0: &mut [u8],
     area1: &mut [u8],
-) -> Both
+) -> LeadIn
     requires { (c : List ℕ) × Comparable c conflicts.now v.now w.now u.now area0.old area1.old }
     ensures { (c : List ℕ)
         → Comparable c conflicts.now v.now w.now u.now
@@ -34,6 +27,6 @@ pub fn compare(
 {
     let vu = product(v, u, conflicts, area0);
     let uw = product(u, w, conflicts, area1);
-    let same = same_bytes(&area0[..vu], &area1[..uw]);
-    Both { same, vu, uw }
+    let yes = same_bytes(&area0[..vu], &area1[..uw]);
+    LeadIn { yes, vu, uw }
 }

@@ -8,10 +8,11 @@ use Rattle.array_row.specs.Area.{StartsWith, ReadOff}
 use Rattle.spec.specs.Letters.{letters, alphabet, normal_form}
 use Rattle.long_reduction.specs.Reducing.{Reducing}
 use Rattle.long_read.specs.Reading.{Readable}
+use Rattle.long_stacks.specs.declared.LinkedStacks.{LinkedStacks}
 
-pub form_readable : {c : List ℕ} {conflicts : List (List ℕ)} {word under link tops marks heights area : List ℕ}
-    → length (letters word) ≤ length area → Reducing c conflicts word under link tops marks heights 0
-    → Readable c conflicts word under link tops marks heights (reduce (alphabet c) (letters word)) area
+pub form_readable : {n : ℕ} {c : List ℕ} {conflicts : List (List ℕ)} {word area : List ℕ} {s : LinkedStacks n}
+    → length (letters word) ≤ length area → Reducing c conflicts word s 0
+    → Readable c conflicts word s (reduce (alphabet c) (letters word)) area
 form_readable {c} {word = word} l r = record {
   table = r.given.table;
   stacks = r.stacks;

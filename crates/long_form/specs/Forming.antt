@@ -1,4 +1,4 @@
--- What a caller of `form`, who lends no rows, has to bring, and what it gets.
+-- What a caller of `form` has to bring, and what it gets.
 use Rattle.std.specs.Prelude.{ℕ, ◌≤◌, List, length}
 use Rattle.array_row.specs.Area.{StartsWith}
 use Rattle.spec.specs.Letters.{letters, normal_form}

@@ -17,34 +17,35 @@ fn concatenate(first: &[u8], second: &[u8], row: &mut [u8]) -> usize
     append(row, middle, second)
 }
 
-// Writes the normal form of first · second into the area and gives its length. The row is worked in; what it holds
-// before does not matter.
-fn product_in(
+// Writes the normal form of first · second into the area and gives its length, for two words of N bytes together at
+// most, in a row of its own.
+fn product_in<const N: usize>(
     first: &[u8],
     second: &[u8],
     conflicts: &[[u16; 24]; 24],
-    row: &mut [u8],
     area: &mut [u8],
 ) -> usize
-    requires { (c : List ℕ) × Factors c conflicts.now first.now second.now area.old
-        × (length first.now + length second.now ≤ length row.old) }
+    requires few { N ≤ 50176 }
+    requires fits { length first.now + length second.now ≤ N }
+    requires factors { (c : List ℕ) × Factors c conflicts.now first.now second.now area.old }
     ensures { Multiplied conflicts.now first.now second.now
         area.old area.new result }
 {
-    let end = concatenate(first, second, row);
+    let mut row: [u8; N] = array_row::row(0);
+    let end = concatenate(first, second, &mut row);
     form(&row[..end], conflicts, area)
 }
 
-// As `product_in`, with a row of its own: a short one where it suffices, so that a short product clears little.
+// Writes the normal form of first · second into the area and gives its length: in a short row where it suffices, so
+// that a short product clears little.
 pub fn product(first: &[u8], second: &[u8], conflicts: &[[u16; 24]; 24], area: &mut [u8]) -> usize
     requires { (c : List ℕ) × Factors c conflicts.now first.now second.now area.old }
     ensures { Multiplied conflicts.now first.now second.now
         area.old area.new result }
 {
     if first.len() + second.len() <= 2048 {
-        let mut row = array_row::short_row();
-        return product_in(first, second, conflicts, &mut row, area);
+        product_in::<2048>(first, second, conflicts, area)
+    } else {
+        product_in::<50176>(first, second, conflicts, area)
     }
-    let mut row = array_row::blank_row();
-    product_in(first, second, conflicts, &mut row, area)
 }

@@ -6,6 +6,7 @@ use Rattle.input_chains.specs.Conflicts.{Conflicts}
 use Rattle.spec.specs.Plan.{Passing}
 use Rattle.spec.specs.Letters.{letters, alphabet}
 use Rattle.long_stacks.specs.Linked.{Stacks}
+use Rattle.long_stacks.specs.declared.LinkedStacks.{LinkedStacks}
 
 -- a word of bytes that pass, of at most 50,176, with the conflict table of its catalogue
 pub record Given (c : List ℕ) (conflicts : List (List ℕ)) (word : List ℕ) : Type 0 where
@@ -15,7 +16,7 @@ pub record Given (c : List ℕ) (conflicts : List (List ℕ)) (word : List ℕ) 
   pub short : length word ≤ 50176
 
 -- the arrays hold the stacks of the word from place i on, reduced
-pub record Reducing (c : List ℕ) (conflicts : List (List ℕ)) (word under link tops marks heights : List ℕ) (i : ℕ)
+pub record Reducing {n : ℕ} (c : List ℕ) (conflicts : List (List ℕ)) (word : List ℕ) (s : LinkedStacks n) (i : ℕ)
     : Type 0 where
   pub given : Given c conflicts word
-  pub stacks : Stacks c word under link tops marks heights i (reduce (alphabet c) (letters (drop i word)))
+  pub stacks : Stacks c word s i (reduce (alphabet c) (letters (drop i word)))

@@ -5,6 +5,7 @@ use Rattle.theory_words.specs.All.{All}
 use Rattle.theory_words.specs.Stack.{proj}
 use Rattle.input_plan.specs.Lettered.{Lettered}
 use Rattle.spec.specs.Letters.{alphabet}
+use Rattle.long_stacks.specs.declared.LinkedStacks.{LinkedStacks}
 
 -- A stack is one higher than its beads are many, so that its height is not 0.
 abbrev pub height : List ℕ → ℕ
@@ -21,19 +22,19 @@ module _ (word under link : List ℕ) (i : ℕ) where
         → Linked (suc p) (height (get_or word p 0 ∷ bs)) (get_or word p 0 ∷ bs)
 
 -- under catalogue c, the arrays hold the stacks of the word x, whose letters stand at place i or later
-pub record Stacks (c word under link tops marks heights : List ℕ) (i : ℕ) (x : List ℕ) : Type 0 where
+pub record Stacks {n : ℕ} (c word : List ℕ) (s : LinkedStacks n) (i : ℕ) (x : List ℕ) : Type 0 where
   pub short : length word ≤ 50176
-  pub unders : length word ≤ length under
-  pub links : length word ≤ length link
-  pub topped : length tops ≡ 24
-  pub marked : length marks ≡ 24
-  pub measured : length heights ≡ 24
+  pub unders : length word ≤ length s.under
+  pub links : length word ≤ length s.link
+  pub topped : length s.tops ≡ 24
+  pub marked : length s.marks ≡ 24
+  pub measured : length s.heights ≡ 24
   pub room : i + length x ≤ length word
   pub letters : All Lettered x
   pub linked : (k : ℕ) → k < 24
-      → Linked word under link i (get_or tops k 0) (get_or marks k 0) (proj (alphabet c) 0 (k + 1) x)
-  pub high : (k : ℕ) → k < 24 → get_or heights k 0 ≡ height (proj (alphabet c) 0 (k + 1) x)
+      → Linked word s.under s.link i (get_or s.tops k 0) (get_or s.marks k 0) (proj (alphabet c) 0 (k + 1) x)
+  pub high : (k : ℕ) → k < 24 → get_or s.heights k 0 ≡ height (proj (alphabet c) 0 (k + 1) x)
 
 -- a letter is on top of the stack of command k + 1: its mark is the height
-abbrev pub LetterOnTop : List ℕ → List ℕ → ℕ → Type 0
-LetterOnTop marks heights k = get_or marks k 0 ≡ get_or heights k 0
+abbrev pub LetterOnTop : {n : ℕ} → LinkedStacks n → ℕ → Type 0
+LetterOnTop s k = get_or s.marks k 0 ≡ get_or s.heights k 0

@@ -1,6 +1,7 @@
 -- Laws of the program's answer: its areas are large enough, and what the answers of the calls and the framing tell.
-use Rattle.std.specs.Prelude.{ℕ, ◌+◌, ◌-◌, ◌≤◌, ◌≡◌, refl, Bool, List, [], ◌∷◌, length, take, drop}
-use Rattle.std.proofs.Common.{arith, sym, ◌∙◌, ap, ap₂, le-ltb}
+use Rattle.std.specs.Prelude.{ℕ, ◌+◌, ◌-◌, ◌≤◌, ◌≡◌, refl, Bool, List, [], ◌∷◌, length, take, drop, Ok, Some, None}
+use Rattle.std.specs.Prelude as rust
+use Rattle.std.proofs.Common.{arith, sym, ◌∙◌, ap, ap₂, subst, le-ltb}
 use Rattle.std.proofs.Math.Option.{Option, none, some}
 use Rattle.spec.specs.Table.{Line, line, line_of, Answer, refused, given, first_line, or_else}
 use Rattle.spec_laws.specs.TableLaws.{left_out, none_left, none_right, none-some}
@@ -10,20 +11,15 @@ use Rattle.spec.specs.Catalogue.{commands, catalogue_lines}
 use Rattle.spec.specs.Plan.{plan_lines}
 use Rattle.spec_laws.specs.PlanLaws.{lines_pass}
 use Rattle.spec.specs.Letters.{letters, alphabet}
-use Rattle.spec.specs.Answers.{told_written, told_loops, DecidedLoops}
+use Rattle.spec.specs.Answers.{told_loops, told_option, DecidedLoops}
 use Rattle.spec.specs.Calls.{plan_limit, area_line, normal_form_lines, core_form, core_answer}
 use Rattle.spec_laws.specs.SearchLaws.{given_not}
 use Rattle.spec_laws.specs.LoopLaws.{lead_in_same}
 use Rattle.spec_laws.specs.CodeLaws.{room_limit}
 use Rattle.spec.specs.Loops.{loops_lines, lead_in_room, Looped, refuses, apart, joined}
-use Rattle.spec.specs.declared.Written.{Written}
-use Rattle.spec.specs.declared.Written.TheVariants as written
 use Rattle.spec.specs.declared.Loops.{Loops}
-use Rattle.spec.specs.declared.Loops.TheVariants as loops
 use Rattle.loops_framing.specs.Frame.{frame}
 use Rattle.loops_framing.specs.FramingLaws.{badly_tells, well_tells, Cut, cut_catalogue, cut_plan1, cut_plan2}
-use Rattle.loops_framing.specs.declared.Frame.{Frame}
-use Rattle.loops_framing.specs.declared.Frame.TheVariants.{Badly, Well}
 use Rattle.loops_framing.specs.declared.Places.{Places}
 use Rattle.loops.specs.CoreVerdict.{core_verdict}
 use Rattle.spec.specs.Program.{core_lines, program_lines, joined_step, loops_verdict, program_answer}
@@ -63,15 +59,15 @@ some-refused : {A : Type 0} (o : Option Line) (a : A) {l : Line} → refused l �
 some-refused none a e = absurd (let z : ◌≡◌ {A = ℕ} 0 1 = cc in omega arith)
 some-refused (some k) a e = cc
 
-module _ (c v area : List ℕ) (h : 1024 ≡ length area) (r : Written) (t : told_written r ≡ core_answer c v area) where
-  told : {a : Answer ℕ} → told_written r ≡ a → a ≡ or_else (first_line (core_lines c v)) (length (core_form c v))
-  told e = sym e ∙ t ∙ ap (λ o. or_else o (length (core_form c v))) (core_enough c v area h)
+module _ (c v area : List ℕ) (h : 1024 ≡ length area) where
+  told : {a : Answer ℕ} → a ≡ core_answer c v area → a ≡ or_else (first_line (core_lines c v)) (length (core_form c v))
+  told t = t ∙ ap (λ o. or_else o (length (core_form c v))) (core_enough c v area h)
 
-  pub core-length : {l : ℕ} → r ≡ written.Length l → given (some l) ≡ core_verdict c v
-  core-length {l} e = some-given (first_line (core_lines c v)) (length (core_form c v)) (told (ap told_written e))
+  pub core-length : {l : ℕ} → given l ≡ core_answer c v area → given (some l) ≡ core_verdict c v
+  core-length t = some-given (first_line (core_lines c v)) (length (core_form c v)) (told t)
 
-  pub core_refused : {f : Refusal} → r ≡ written.Refused f → refused (line_of f) ≡ core_verdict c v
-  core_refused {f} e = some-refused (first_line (core_lines c v)) (length (core_form c v)) (told (ap told_written e))
+  pub core_refused : {l : Line} → refused l ≡ core_answer c v area → refused l ≡ core_verdict c v
+  core_refused t = some-refused (first_line (core_lines c v)) (length (core_form c v)) (told t)
 
 -- What the loops call's answer tells
 
@@ -107,27 +103,32 @@ module _ (c v w area : List ℕ) (h : 49152 ≡ length area) where
   core_passes (joined e j i) k =
       none_left (core_lines c v) (plan_lines 2 plan_limit (commands c) w) (first_as_call e)
 
-  module _ {r : Loops} {after : List ℕ} (d : Looped c v w area (told_loops r) after) where
-    pub loops_joined : {l n : ℕ} → r ≡ loops.Joined l n → core_verdict c v ≡ loops_verdict c v w
-    loops_joined e =
-        ap (λ o. or_else o (some (length (core_form c v)))) (core_passes d (ap told_loops e))
-        ∙ sym (ap (λ s. recount (told_loops s) (length (core_form c v))) e)
-        ∙ recounted d
+  module _ {after : List ℕ} where
+    pub loops_joined : {l n : ℕ} → Looped c v w area (given (record { lead_in = some l; rounds = n })) after
+        → core_verdict c v ≡ loops_verdict c v w
+    loops_joined d = ap (λ o. or_else o (some (length (core_form c v)))) (core_passes d refl) ∙ recounted d
 
-    pub loops_apart : {n : ℕ} → r ≡ loops.Apart n → given none ≡ loops_verdict c v w
-    loops_apart e = sym (ap (λ s. recount (told_loops s) (length (core_form c v))) e) ∙ recounted d
+    pub loops_apart : {n : ℕ} → Looped c v w area (given (record { lead_in = none; rounds = n })) after
+        → given none ≡ loops_verdict c v w
+    loops_apart d = recounted d
 
-    pub loops-refused : {f : Refusal} → r ≡ loops.Refused f → refused (line_of f) ≡ loops_verdict c v w
-    loops-refused e = sym (ap (λ s. recount (told_loops s) (length (core_form c v))) e) ∙ recounted d
+    pub loops-refused : {l : Line} → Looped c v w area (refused l) after → refused l ≡ loops_verdict c v w
+    loops-refused d = recounted d
+
+    -- what the lead-in is, once it is known
+    pub decided_as : {d : Loops} {o : rust.Option ℕ} → Looped c v w area (told_loops (Ok d)) after → d.lead_in ≡ o
+        → Looped c v w area (given (record { lead_in = told_option o; rounds = d.rounds })) after
+    decided_as {d} k e =
+        subst (λ x. Looped c v w area (given (record { lead_in = told_option x; rounds = d.rounds })) after) e k
 
 -- What the framing tells
 
-module _ (s : List ℕ) {r : Frame} (e : r ≡ frame s) where
-  pub badly_answer : (f : Refusal) → line_of f ≡ line 11 0 0 → r ≡ Badly → refused (line_of f) ≡ program_answer s
-  badly_answer f k b = rw (badly_tells s (sym b ∙ e)) (ap refused k)
+pub well_laid : {s : List ℕ} {p : Places} → Some p ≡ frame s → Cut s p
+well_laid {s} {p} e = well_tells s p e
 
-  pub well_laid : {p : Places} → r ≡ Well p → Cut s p
-  well_laid {p} b = well_tells s p (sym b ∙ e)
+pub badly_answer : (s : List ℕ) (f : Refusal) → line_of f ≡ line 11 0 0 → None ≡ frame s
+    → refused (line_of f) ≡ program_answer s
+badly_answer s f k e = rw (badly_tells s e) (ap refused k)
 
 pub well_answer : (s : List ℕ) (p : Places) (l : Cut s p)
     → loops_verdict (take p.first s) (take (p.second - (p.first + 2)) (drop (p.first + 2) s))

@@ -11,29 +11,7 @@ ghost use Rattle.spec.specs.Listing.{told_verdict, Printed};
 ghost use Rattle.spec.specs.Program.{loops_verdict, program_answer};
 ghost use Rattle.loops.specs.CoreVerdict.{core_verdict};
 
-use loops_framing::Frame;
-use spec::{Loops, Reason, Refusal, Verdict, Written};
-
-// Room for the core of the longest plan.
-fn core_area() -> [u8; 1024]
-    ensures { 1024 ≡ length result }
-{
-    [0; 1024]
-}
-
-// Room for every lead-in: 24 × 2,048 bytes.
-fn lead_in_area() -> [u8; 49152]
-    ensures { 49152 ≡ length result }
-{
-    [0; 49152]
-}
-
-// Room for the longest input, and one byte to tell a longer one.
-fn input_area() -> [u8; 8193]
-    ensures { 8193 ≡ length result }
-{
-    [0; 8193]
-}
+use spec::{Reason, Refusal};
 
 // Line 11.
 fn badly_framed() -> Refusal
@@ -47,38 +25,35 @@ fn badly_framed() -> Refusal
 }
 
 // Joined, with the number of letters in the core of v.
-fn joined(catalogue: &[u8], v: &[u8]) -> Verdict
+fn joined(catalogue: &[u8], v: &[u8]) -> Result<Option<usize>, Refusal>
     ensures { told_verdict result ≡ core_verdict catalogue.now v.now }
 {
-    let mut area = core_area();
-    match busplan::core(catalogue, v, &mut area) {
-        Written::Length(letters) => Verdict::Joined(letters),
-        Written::Refused(refusal) => Verdict::Refused(refusal),
-    }
+    // room for the core of the longest plan
+    let mut area: [u8; 1024] = array_row::row(0);
+    let letters = busplan::core(catalogue, v, &mut area)?;
+    Ok(Some(letters))
 }
 
 // The verdict on two loops.
-fn decide(catalogue: &[u8], v: &[u8], w: &[u8]) -> Verdict
+fn decide(catalogue: &[u8], v: &[u8], w: &[u8]) -> Result<Option<usize>, Refusal>
     ensures { told_verdict result ≡ loops_verdict catalogue.now v.now w.now }
 {
-    let mut area = lead_in_area();
-    match busplan::loops(catalogue, v, w, &mut area) {
-        Loops::Joined {
-            length: _,
-            rounds: _,
-        } => joined(catalogue, v),
-        Loops::Apart { rounds: _ } => Verdict::Apart,
-        Loops::Refused(refusal) => Verdict::Refused(refusal),
+    // room for every lead-in: 24 × 2,048 bytes
+    let mut area: [u8; 49152] = array_row::row(0);
+    let decided = busplan::loops(catalogue, v, w, &mut area)?;
+    match decided.lead_in {
+        Some(_) => joined(catalogue, v),
+        None => Ok(None),
     }
 }
 
 // The verdict on an input.
-fn answer(input: &[u8]) -> Verdict
+fn answer(input: &[u8]) -> Result<Option<usize>, Refusal>
     ensures { told_verdict result ≡ program_answer input.now }
 {
     match loops_framing::framed(input) {
-        Frame::Badly => Verdict::Refused(badly_framed()),
-        Frame::Well(places) => {
+        None => Err(badly_framed()),
+        Some(places) => {
             let first = places.first;
             let second = places.second;
             decide(
@@ -100,7 +75,8 @@ fn print(input: &[u8], out: &mut [u8]) -> usize
 }
 
 fn main() {
-    let mut input = input_area();
+    // room for the longest input, and one byte to tell a longer one
+    let mut input: [u8; 8193] = array_row::row(0);
     let n = io::read_full(0, &mut input);
     let mut out = [0u8; 79];
     let l = print(&input[..n], &mut out);

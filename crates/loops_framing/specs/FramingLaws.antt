@@ -1,12 +1,11 @@
 -- Laws of framing: an input computes to well framed exactly if it is some catalogue and two plans, well framed, and
 -- these are its parts.
-use Rattle.std.specs.Prelude.{ℕ, suc, ◌+◌, ◌*◌, ◌-◌, ◌≤◌, ◌<◌, ◌≡◌, refl, Bool, true, false, ◌&&◌, List, [], ◌∷◌, ◌++◌, length, get_or, take, drop, leb, eqb}
+use Rattle.std.specs.Prelude.{ℕ, suc, ◌+◌, ◌*◌, ◌-◌, ◌≤◌, ◌<◌, ◌≡◌, refl, Bool, true, false, ◌&&◌, List, [], ◌∷◌, ◌++◌, length, get_or, take, drop, leb, eqb, Some, None}
 use Rattle.std.proofs.Common.{arith, add-zero, sym, ◌∙◌, ap, ap₂, append_assoc, append-nil, length-append, length-drop, take-append-drop, length-take-le, drop-cons, drop-drop, get_or-take, get_or-drop, le-leb, leb-true, eq-eqb, ne_eqb, eqb-true}
 use Rattle.std.proofs.Math.ListN.{get_or-append}
 use Rattle.std.proofs.Math.Seq.{drop-length, take-append_seam, drop-append_seam}
 use Rattle.std.proofs.lemmas.Bool.{lt-leb}
 use Rattle.theory_words.specs.BoolLaws.{and_both}
-use Rattle.loops_framing.specs.declared.Frame.TheVariants.{Badly, Well}
 use Rattle.loops_framing.specs.declared.Places.{Places}
 use Rattle.spec.specs.Layout.{byte_at, is_second, layout_step}
 use Rattle.spec_laws.specs.LayoutLaws.{start_within}
@@ -16,7 +15,7 @@ use Rattle.loops_framing.specs.Frame.{frame_step, frame}
 
 -- What the code's tests tell
 
-pub long_badly : (s : List ℕ) → 8192 < length s → Badly ≡ frame s
+pub long_badly : (s : List ℕ) → 8192 < length s → None ≡ frame s
 long_badly s h = simp (lt-leb (length s) 8192 h)
 
 and_right : (b : Bool) → (b && false) ≡ false
@@ -31,12 +30,12 @@ module _ (s : List ℕ) {first second end : ℕ} (f : first ≡ catalogue_length
   ends : end ≡ plan_end s (second_place s)
   ends = h ∙ ap (plan_end s) second_place_lem
 
-  pub other_badly : (end ≡ length s → ⊥) → Badly ≡ frame s
+  pub other_badly : (end ≡ length s → ⊥) → None ≡ frame s
   other_badly d =
       let t : eqb (plan_end s (second_place s)) (length s) ≡ false = ne_eqb _ _ (λ e. d (ends ∙ e)) in
       simp (t, and_right (leb (length s) 8192))
 
-  pub whole_well : length s ≤ 8192 → end ≡ length s → Well (record { first = first; second = second }) ≡ frame s
+  pub whole_well : length s ≤ 8192 → end ≡ length s → Some (record { first = first; second = second }) ≡ frame s
   whole_well l e =
       let t : eqb (plan_end s (second_place s)) (length s) ≡ true = eq-eqb _ _ (sym ends ∙ e) in
       simp (t, le-leb _ _ l, f, second_place_lem)
@@ -195,16 +194,16 @@ framed_well {s} {c} {v} {w} f = (
 
 -- What a frame tells
 
-step_badly : (t : Bool) (s : List ℕ) → Badly ≡ frame_step t s → t ≡ false
-step_badly true s e = absurd (let z : ◌≡◌ {A = ℕ} 0 1 = cc in omega arith)
+step_badly : (t : Bool) (s : List ℕ) → None ≡ frame_step t s → t ≡ false
+step_badly true s e = cc
 step_badly false s e = refl
 
-step_well : (t : Bool) (s : List ℕ) (p : Places) → Well p ≡ frame_step t s
+step_well : (t : Bool) (s : List ℕ) (p : Places) → Some p ≡ frame_step t s
     → (t ≡ true) × (p ≡ record { first = catalogue_length s; second = second_place s })
 step_well true s p e = (refl, cc)
-step_well false s p e = absurd (let z : ◌≡◌ {A = ℕ} 0 1 = cc in omega arith)
+step_well false s p e = absurd cc
 
-pub badly_tells : (s : List ℕ) → Badly ≡ frame s → well_framed s ≡ false
+pub badly_tells : (s : List ℕ) → None ≡ frame s → well_framed s ≡ false
 badly_tells s e = step_badly (well_framed s) s e
 
 -- the places of a well framed input, by what lies between them
@@ -214,7 +213,7 @@ pub record Cut (s : List ℕ) (p : Places) : Type 0 where
   pub second : p.second ≡ p.first + 2 + count_at s p.first
   pub end : length s ≡ p.second + 2 + count_at s p.second
 
-pub well_tells : (s : List ℕ) (p : Places) → Well p ≡ frame s → Cut s p
+pub well_tells : (s : List ℕ) (p : Places) → Some p ≡ frame s → Cut s p
 well_tells s p e = record {
   well = told.0;
   first = first;

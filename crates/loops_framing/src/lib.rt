@@ -7,19 +7,13 @@ ghost use Rattle.std.specs.Prelude.{◌+◌, ◌≤◌, ◌≡◌};
 ghost use Rattle.spec.specs.Framing.{plan_end};
 ghost use Rattle.loops_framing.specs.Frame.{frame};
 
-use input_layout::{layout_of, pair_at, size_of};
+use input_layout::{Catalogue, pair_at};
 
 // Where the counts of the two plans stand; the catalogue lies before the first.
 #[derive(Clone, Copy)]
 pub struct Places {
     pub first: usize,
     pub second: usize,
-}
-
-#[derive(Clone, Copy)]
-pub enum Frame {
-    Badly,
-    Well(Places),
 }
 
 // Where the plan ends whose count stands at place i.
@@ -31,17 +25,17 @@ fn plan_end(s: &[u8], i: usize) -> usize
     i + 2 + pair_at(s, i)
 }
 
-// How the input is framed.
-pub fn framed(s: &[u8]) -> Frame
+// The places of an input that is well framed.
+pub fn framed(s: &[u8]) -> Option<Places>
     ensures { result ≡ frame s.now }
 {
     if 8192 < s.len() {
-        return Frame::Badly;
+        return None;
     }
-    let first = size_of(layout_of(s));
+    let first = Catalogue::of(s).size();
     let second = plan_end(s, first);
     if plan_end(s, second) != s.len() {
-        return Frame::Badly;
+        return None;
     }
-    Frame::Well(Places { first, second })
+    Some(Places { first, second })
 }

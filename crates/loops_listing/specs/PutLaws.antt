@@ -1,6 +1,7 @@
 -- Laws of text put into a row: one text behind another.
-use Rattle.std.specs.Prelude.{ℕ, ◌+◌, ◌-◌, ◌^◌, ◌≤◌, ◌<◌, ◌≡◌, refl, Bool, true, false, List, ◌++◌, length, take, leb}
-use Rattle.std.proofs.Common.{arith, sym, subst, length-append, length-take-le, leb-true, leb-false, Fits}
+use Rattle.std.specs.Prelude.{ℕ, ◌+◌, ◌-◌, ◌^◌, ◌≤◌, ◌<◌, ◌≡◌, refl, Bool, true, false, List, ◌++◌, length, take, leb, Result, Ok}
+use Rattle.std.specs.Prelude as rust
+use Rattle.std.proofs.Common.{arith, sym, ◌∙◌, ap, subst, append_assoc, length-append, length-take-le, leb-true, leb-false, Fits}
 use Rattle.std.proofs.Math.Nat.{pow-le-pow_right}
 use Rattle.std.proofs.Math.Option.{Option, some, none}
 use Rattle.std.specs.Int.{w64}
@@ -10,9 +11,10 @@ use Rattle.spec.specs.Table.{Line, Answer, given, refused}
 use Rattle.array_row.specs.Row.{Appended}
 use Rattle.array_row.specs.RowLaws.{appended_take, appended_length}
 use Rattle.array_row.specs.AppendLaws.{appended_then}
-use Rattle.spec.specs.declared.Verdict.{Verdict}
+use Rattle.spec.specs.Answers.{told_option}
+use Rattle.spec.specs.declared.Refusal.{Refusal}
 use Rattle.spec.specs.Listing.{bytes, Decimal, Shows, joined, apart, refuses, Printed, printed, told_verdict}
-use Rattle.loops_listing.specs.Put.{Put}
+use Rattle.loops_listing.specs.Put.{Put, PutNumber}
 
 -- a 64-bit number has at most 20 digits
 pub decimal_short : {n k : ℕ} → Fits w64 n → IsDigitCount 10 1 n k → k ≤ 20
@@ -27,54 +29,54 @@ decimal_short {n} {k} f w = by_test (leb k 20) refl
 
 -- The lines
 
-pub put_joined : {before mid after : List ℕ} {at end last : ℕ} (c : ℕ) → Appended before at (bytes "joined ") mid end
-    → Put (Decimal c) 20 mid end after last → end ≤ length before → Put (Shows (given (some c))) 70 before at after last
-put_joined c a p h = record {
-  text = bytes "joined " ++ p.text;
+pub put_joined : {before after : List ℕ} {at last : ℕ} (c : ℕ) → PutNumber (bytes "joined ") c before at after last
+    → Put (Shows (given (some c))) 70 before at after last
+put_joined c p = record {
+  text = bytes "joined " ++ p.digits;
   says = joined p.says;
-  short = omega (arith, p.short, length-append (bytes "joined ") p.text);
-  there = appended_then a p.there h;
+  short = omega (arith, p.short, length-append (bytes "joined ") p.digits);
+  there = p.there;
 }
 
 pub put_apart : {before after : List ℕ} {at last : ℕ} → Appended before at (bytes "apart") after last
     → Put (Shows (given none)) 70 before at after last
 put_apart a = record { text = bytes "apart"; says = apart; short = omega arith; there = a }
 
-module _ {b0 b1 b2 b3 b4 b5 b6 : List ℕ} {at e1 e2 e3 e4 e5 e6 : ℕ} where
+-- a word and a number behind a text
+put_behind : {before middle after x w : List ℕ} {n at mid end : ℕ} → Appended before at x middle mid
+    → (p : PutNumber w n middle mid after end) → mid ≤ length before → Appended before at (x ++ w ++ p.digits) after end
+put_behind {before} {after = after} {x} {w} {at = at} {end = end} a p h =
+    subst (λ t. Appended before at t after end) (sym (append_assoc x w p.digits)) (appended_then a p.there h)
+
+module _ {b0 b1 b2 b3 : List ℕ} {at e1 e2 e3 : ℕ} where
   pub put_refused : (l : Line) (k : ℕ) → k ≡ l.number
-      → Appended b0 at (bytes "refused ") b1 e1 → Put (Decimal k) 20 b1 e1 b2 e2
-      → Appended b2 e2 (bytes " ") b3 e3 → Put (Decimal l.plan) 20 b3 e3 b4 e4
-      → Appended b4 e4 (bytes " ") b5 e5 → Put (Decimal l.place) 20 b5 e5 b6 e6
-      → at + 70 ≤ length b0 → Put (Shows (refused l)) 70 b0 at b6 e6
-  put_refused l k e a n b p d i h = record {
-    text = bytes "refused " ++ n.text ++ bytes " " ++ p.text ++ bytes " " ++ i.text;
-    says = refuses (subst (λ m. Decimal m n.text) e n.says) p.says i.says;
-    short = omega (arith, whole.ends, i.there.ends, ends5, i.short);
+      → PutNumber (bytes "refused ") k b0 at b1 e1 → PutNumber (bytes " ") l.plan b1 e1 b2 e2
+      → PutNumber (bytes " ") l.place b2 e2 b3 e3 → at + 70 ≤ length b0 → Put (Shows (refused l)) 70 b0 at b3 e3
+  put_refused l k e n p i h = record {
+    text = bytes "refused " ++ n.digits ++ bytes " " ++ p.digits ++ bytes " " ++ i.digits;
+    says = refuses (subst (λ m. Decimal m n.digits) e n.says) p.says i.says;
+    short = omega (arith, whole.ends, ends1, ends2, ends3);
     there = whole;
   }
     where
-      ends1 : e1 ≡ at + 8
-      ends1 = a.ends
+      ends1 : e1 ≤ at + 28
+      ends1 = omega (arith, n.there.ends, n.short, length-append (bytes "refused ") n.digits)
 
-      ends3 : e3 ≤ at + 29
-      ends3 = omega (arith, b.ends, n.there.ends, n.short, ends1)
+      ends2 : e2 ≤ e1 + 21
+      ends2 = omega (arith, p.there.ends, p.short, length-append (bytes " ") p.digits)
 
-      ends5 : e5 ≤ at + 50
-      ends5 = omega (arith, d.ends, p.there.ends, p.short, ends3)
+      ends3 : e3 ≤ e2 + 21
+      ends3 = omega (arith, i.there.ends, i.short, length-append (bytes " ") i.digits)
 
-      whole : Appended b0 at (bytes "refused " ++ n.text ++ bytes " " ++ p.text ++ bytes " " ++ i.text) b6 e6
-      whole =
-          let s2 = appended_then a n.there (omega (arith, ends1)) in
-          let s3 = appended_then s2 b (omega (arith, ends1, n.there.ends, n.short)) in
-          let s4 = appended_then s3 p.there (omega (arith, ends3)) in
-          let s5 = appended_then s4 d (omega (arith, ends3, p.there.ends, p.short)) in
-          appended_then s5 i.there (omega (arith, ends5))
+      whole : Appended b0 at (bytes "refused " ++ n.digits ++ bytes " " ++ p.digits ++ bytes " " ++ i.digits) b3 e3
+      whole = put_behind (put_behind n.there p (omega (arith, ends1))) i (omega (arith, ends1, ends2))
 
--- what a verdict shows, once it is known which it is
-pub put_told : {before after : List ℕ} {at last : ℕ} {v : Verdict} (w : Verdict) → v ≡ w
-    → Put (Shows (told_verdict w)) 70 before at after last → Put (Shows (told_verdict v)) 70 before at after last
-put_told {before} {after} {at} {last} w e p =
-    subst (λ u. Put (Shows (told_verdict u)) 70 before at after last) (sym e) p
+-- what a verdict that is no refusal shows, once it is known which it is
+pub put_given : {before after : List ℕ} {at last : ℕ} {v : Result (rust.Option ℕ) Refusal} {o p : rust.Option ℕ}
+    → v ≡ Ok o → o ≡ p → Put (Shows (given (told_option p))) 70 before at after last
+    → Put (Shows (told_verdict v)) 70 before at after last
+put_given {before} {after} {at} {last} e f q =
+    subst (λ u. Put (Shows (told_verdict u)) 70 before at after last) (sym (e ∙ ap Ok f)) q
 
 -- the whole text
 pub put_printed : {b0 b1 b2 b3 : List ℕ} {e1 e2 e3 : ℕ} (a : Answer (Option ℕ))

@@ -3,59 +3,80 @@
 
 #![tactic(auto)]
 
-ghost use Rattle.std.specs.Prelude.{◌+◌, ◌≤◌, length, take};
+ghost use Rattle.std.specs.Prelude.{◌+◌, ◌≤◌, ◌≡◌, length, take};
 ghost use Rattle.io.specs.Counts.{IsPrefixLen};
-ghost use Rattle.spec.specs.Listing.{Decimal, Shows, told_verdict, Printed};
-ghost use Rattle.loops_listing.specs.Put.{Put, Refuses};
+ghost use Rattle.spec.specs.Listing.{Shows, told_verdict, Printed};
+ghost use Rattle.array_row.specs.Row.{Appended};
+ghost use Rattle.loops_listing.specs.Put.{Put, PutNumber, Refuses};
 
-use spec::{Refusal, Verdict};
+use spec::Refusal;
 
-// A number in decimal, behind the first `at` bytes.
-fn put_decimal(out: &mut [u8], at: usize, n: u64) -> usize
-    requires { at + 20 ≤ length out.old }
-    ensures { Put (Decimal n) 20 out.old at out.new result }
-{
-    let mut digits = [0u8; 20];
-    let k = io::decimal(n, &mut digits);
-    array_row::append(out, at, &digits[..k])
+// A text that grows at the start of a buffer and ends before the byte `end`. There is no heap for a String. That `out`
+// stays the same reference is in each contract, so that `put` knows what it holds at the end.
+#[derive(Drop)]
+struct Text<'a> {
+    out: &'a mut [u8],
+    end: usize,
 }
 
-// The line of a refusal: its number, plan and place.
-fn put_refusal(out: &mut [u8], at: usize, refusal: Refusal) -> usize
-    requires { at + 70 ≤ length out.old }
-    ensures { Put (Refuses refusal) 70 out.old at out.new result }
-{
-    let reason = refusal.reason;
-    let word = array_row::append(out, at, b"refused ");
-    let number = put_decimal(out, word, call_codes::number(reason) as u64);
-    let gap = array_row::append(out, number, b" ");
-    let plan = put_decimal(out, gap, refusal.plan as u64);
-    let next = array_row::append(out, plan, b" ");
-    put_decimal(out, next, refusal.place as u64)
-}
+impl<'a> Text<'a> {
+    // Puts a word.
+    fn word(&mut self, word: &[u8])
+        requires { self.old.end + length word.now ≤ length self.old.out.now }
+        ensures same_reference { self.new.out.ghost_name ≡ self.old.out.ghost_name }
+        ensures there { Appended self.old.out.now self.old.end word.now self.new.out.now self.new.end }
+    {
+        self.end = array_row::append(self.out, self.end, word);
+    }
 
-// The line of a verdict.
-fn put_line(out: &mut [u8], at: usize, verdict: Verdict) -> usize
-    requires { at + 70 ≤ length out.old }
-    ensures { Put (Shows (told_verdict verdict)) 70 out.old at out.new result }
-{
-    match verdict {
-        Verdict::Joined(c) => {
-            let word = array_row::append(out, at, b"joined ");
-            put_decimal(out, word, c as u64)
+    // Puts a word, and a number in decimal behind it.
+    fn number(&mut self, word: &[u8], n: u64)
+        requires { self.old.end + length word.now + 20 ≤ length self.old.out.now }
+        ensures same_reference { self.new.out.ghost_name ≡ self.old.out.ghost_name }
+        ensures there { PutNumber word.now n self.old.out.now self.old.end self.new.out.now self.new.end }
+    {
+        let mut digits = [0u8; 20];
+        let k = io::decimal(n, &mut digits);
+        self.word(word);
+        self.word(&digits[..k]);
+    }
+
+    // Puts the line of a refusal: its number, plan and place. The number is call_codes', so that the edit
+    // call_codes/retired_number shows in this program (docs/DECISIONS.md).
+    fn refusal(&mut self, refusal: Refusal)
+        requires { self.old.end + 70 ≤ length self.old.out.now }
+        ensures same_reference { self.new.out.ghost_name ≡ self.old.out.ghost_name }
+        ensures there { Put (Refuses refusal) 70 self.old.out.now self.old.end self.new.out.now self.new.end }
+    {
+        self.number(b"refused ", call_codes::number(refusal.reason) as u64);
+        self.number(b" ", refusal.plan as u64);
+        self.number(b" ", refusal.place as u64);
+    }
+
+    // Puts the line of a verdict.
+    fn verdict(&mut self, verdict: Result<Option<usize>, Refusal>)
+        requires { self.old.end + 70 ≤ length self.old.out.now }
+        ensures same_reference { self.new.out.ghost_name ≡ self.old.out.ghost_name }
+        ensures there { Put (Shows (told_verdict verdict)) 70
+            self.old.out.now self.old.end self.new.out.now self.new.end }
+    {
+        match verdict {
+            Ok(Some(c)) => self.number(b"joined ", c as u64),
+            Ok(None) => self.word(b"apart"),
+            Err(refusal) => self.refusal(refusal),
         }
-        Verdict::Apart => array_row::append(out, at, b"apart"),
-        Verdict::Refused(refusal) => put_refusal(out, at, refusal),
     }
 }
 
 // The whole text, at the start of out; gives its length.
-pub fn put(out: &mut [u8], verdict: Verdict) -> usize
+pub fn put(out: &mut [u8], verdict: Result<Option<usize>, Refusal>) -> usize
     requires { 79 ≤ length out.old }
     ensures text { Printed (told_verdict verdict) (take result out.new) }
     ensures room { IsPrefixLen result out.new }
 {
-    let heading = array_row::append(out, 0, b"loops 1\n");
-    let line = put_line(out, heading, verdict);
-    array_row::append(out, line, b"\n")
+    let mut text = Text { out, end: 0 };
+    text.word(b"loops 1\n");
+    text.verdict(verdict);
+    text.word(b"\n");
+    text.end
 }

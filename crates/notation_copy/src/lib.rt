@@ -10,23 +10,21 @@ use array_row::undo_between;
 
 // Copies the bytes between two places so often, the first time where they stand, and gives the new end.
 pub fn repeat(area: &mut [u8], from: usize, to: usize, count: usize) -> usize
-    requires fact_1 { from ≤ to }
-    requires fact_2 { 1 ≤ count }
-    requires fact_3 { from + count * (to - from) ≤ length area.old }
+    requires in_order { from ≤ to }
+    requires once { 1 ≤ count }
+    requires room { from + count * (to - from) ≤ length area.old }
     ensures { Appended area.old from (repeated count (drop from (take to area.old)))
         area.new result }
 {
     let width = to - from;
-    let end = to + (count - 1) * width;
-    let mut i = to;
-    while i < end {
-        area[i] = area[i - width];
-        i += 1;
+    for n in 1..count {
+        area.copy_within(from..to, from + n * width);
     }
-    end
+    from + count * width
 }
 
 // Undoes the bytes between two places if a minus stands before them.
+// `undone` is a bool, here and in `signed`: the text tells it, so no caller knows beforehand which of the two it wants.
 pub fn undo_if(undone: bool, area: &mut [u8], from: usize, to: usize)
     requires { (from ≤ to) × (to ≤ length area.old) }
     ensures { Appended area.old from (signed_plan undone (drop from (take to area.old)))
@@ -41,8 +39,5 @@ pub fn undo_if(undone: bool, area: &mut [u8], from: usize, to: usize)
 pub fn signed(undone: bool, k: u8) -> u8
     ensures { result ≡ signed_byte undone k }
 {
-    if undone {
-        return input_plan::undo(k);
-    }
-    k
+    if undone { input_plan::undo(k) } else { k }
 }

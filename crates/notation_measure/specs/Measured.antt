@@ -1,18 +1,18 @@
 -- What the measure of a part of a text tells of it: the length of what it writes out, cut off past 1,024, and the first
 -- command above N.
 use Rattle.std.specs.Prelude.{ℕ, ◌+◌, ◌*◌, ◌≤◌, ◌<◌, min, ◌≡◌, List, ltb, length, drop}
-use Rattle.std.proofs.Math.Option.{Option, none, some}
+use Rattle.std.proofs.Math.Option.{Option, none}
+use Rattle.std.specs.Prelude as rust
+use Rattle.spec.specs.Answers.{told_option}
 use Rattle.spec.specs.Table.{found_step}
 use Rattle.spec.specs.Notation.{Token, tokens, size_of, first, first_above}
 use Rattle.notation_laws.specs.Ended.{NoDigit}
 use Rattle.notation_laws.specs.Here.{Here, number_of, SmallNumber}
-use Rattle.notation_measure.specs.declared.Above.{Above}
-use Rattle.notation_measure.specs.declared.Above.TheVariants.{Nothing, Left}
 use Rattle.notation_measure.specs.declared.Measure.{Measure}
 
-abbrev pub told_above : Above → Option ℕ
-told_above Nothing = none
-told_above (Left l) = some l
+-- how many bytes are left at a command above N, or none
+abbrev pub told_above : rust.Option ℕ → Option ℕ
+told_above = told_option
 
 -- a length that stops growing once it is past 1,024
 abbrev pub capped : ℕ → ℕ

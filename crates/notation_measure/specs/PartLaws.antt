@@ -1,6 +1,7 @@
 -- The measure of what stands first in a sequence: a blank, a command or a group.
 use Rattle.std.specs.Prelude.{ℕ, ◌+◌, ◌*◌, ◌-◌, ◌≤◌, ◌≡◌, Bool, true, List, ltb}
 use Rattle.std.proofs.Common.{mul-le-mul, arith, ◌∙◌}
+use Rattle.std.specs.Prelude as rust
 use Rattle.std.proofs.Math.Path.{sym, ap}
 use Rattle.std.proofs.Math.ListN.{length, drop}
 use Rattle.spec.specs.Table.{found_step}
@@ -12,7 +13,6 @@ use Rattle.notation_parts.specs.declared.Number.{Number}
 use Rattle.notation_parts.specs.PlaceLaws.{goes_within}
 use Rattle.notation_parts.specs.StepLaws.{moved, step_blank, Plain, step_command, number_high}
 use Rattle.notation_parts.specs.GroupLaws.{group_small, Counted, counted_says, counted_behind, counted_within}
-use Rattle.notation_measure.specs.declared.Above.TheVariants.{Nothing}
 use Rattle.notation_measure.specs.declared.Measure.{Measure}
 use Rattle.notation_measure.specs.Measured.{capped, Measured, Part, Grouped, CommandNumber, Commanded}
 use Rattle.notation_measure.specs.CappedLaws.{capped_low, capped_left, capped_times}
@@ -25,7 +25,7 @@ command_number s at h p =
 
 module _ (n : ℕ) (s : List ℕ) (at : ℕ) {d : ℕ} (h : Here (drop at (tokens s)) d) where
   pub item_blank : goes_on (drop at (tokens s)) ≡ true → is_blank (drop at (tokens s)) ≡ true
-      → Part n s at d h (record { size = 0; above = Nothing; end = at + 1 })
+      → Part n s at d h (record { size = 0; above = rust.None; end = at + 1 })
   item_blank g b =
       let (k, e, f) = step_blank s at h b in
       let z : size_of h.says ≡ 0 + size_of k.says = omega (arith, ap size_of f) in

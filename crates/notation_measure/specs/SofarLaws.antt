@@ -1,13 +1,13 @@
 -- The measure of a sequence part by part, as the loop of `items` meets them.
 use Rattle.std.specs.Prelude.{ℕ, ◌+◌, ◌≤◌, ◌<◌, ◌≡◌, refl, false, List, length, drop}
 use Rattle.std.proofs.Common.{arith, ◌∙◌}
+use Rattle.std.specs.Prelude as rust
 use Rattle.std.proofs.Math.Path.{sym, ap}
 use Rattle.spec.specs.Notation.{tokens, size_of, first, first_above}
 use Rattle.notation_laws.specs.Here.{Here, goes_on}
 use Rattle.notation_laws.specs.HereLaws.{here_over}
 use Rattle.notation_laws.specs.FirstLaws.{first_assoc, first_alone}
 use Rattle.notation_parts.specs.StepLaws.{moved}
-use Rattle.notation_measure.specs.declared.Above.TheVariants.{Nothing}
 use Rattle.notation_measure.specs.declared.Measure.{Measure}
 use Rattle.notation_measure.specs.Measured.{told_above, capped, Measured, Part, Joined}
 use Rattle.notation_measure.specs.CappedLaws.{capped_low, capped_left, capped_right}
@@ -18,7 +18,7 @@ pub record Sofar (n : ℕ) (s : List ℕ) (at d : ℕ) (all : Measure) : Type 0 
   pub onward : at ≤ all.end
 
 module _ (n : ℕ) (s : List ℕ) (at d : ℕ) where
-  pub parts_start : at ≤ length s → Sofar n s at d (record { size = 0; above = Nothing; end = at })
+  pub parts_start : at ≤ length s → Sofar n s at d (record { size = 0; above = rust.None; end = at })
   parts_start l =
       record {
         part = λ h.

@@ -5,58 +5,32 @@
 
 ghost use Rattle.std.specs.Prelude.{◌*◌, ◌≤◌, ◌<◌, ◌≡◌, true, length, drop};
 ghost use Rattle.spec.specs.Plan.{passes};
-ghost use Rattle.spec.specs.Notation.{tokens, first as first_of};
+ghost use Rattle.spec.specs.Notation.{tokens};
 ghost use Rattle.notation_laws.specs.Here.{Here, goes_on};
-ghost use Rattle.notation_measure.specs.Measured.{told_above, capped as cappedTo, Measured, Part, Joined};
+ghost use Rattle.notation_measure.specs.Measured.{capped as cappedTo, Measured, Part, Joined};
 ghost use Rattle.notation_measure.specs.Measured.{Grouped, CommandNumber, Commanded};
 
-use input_catalogue::Checked;
-
-// How many bytes of the text are left at the first digit of a command above N, if there is one.
-#[derive(Clone, Copy)]
-pub enum Above {
-    Nothing,
-    Left(usize),
-}
-
-// A part of a text: the length of what it writes out, at most 1,025; its first command above N; the place behind it.
+// A part of a text: the length of what it writes out, at most 1,025; how many bytes of the text are left at the first
+// digit of its first command above N, if there is one; the place behind it.
 #[derive(Clone, Copy)]
 pub struct Measure {
     pub size: usize,
-    pub above: Above,
+    pub above: Option<usize>,
     pub end: usize,
 }
 
-// A length cut off past 1,024.
+// A length cut off past 1,024: a function, since the laws speak of it by name (`capped`, specs/Measured.antt).
 fn capped(n: usize) -> usize
     ensures { result ≡ cappedTo n }
 {
-    if 1025 < n {
-        return 1025;
-    }
-    n
-}
-
-// The first of two.
-fn first(a: Above, b: Above) -> Above
-    ensures { told_above result ≡ first_of (told_above a) (told_above b) }
-{
-    match a {
-        Above::Nothing => b,
-        Above::Left(_) => a,
-    }
+    n.min(1025)
 }
 
 // Whether the check of plans lets this command pass, with so many commands.
 fn known(k: u8, commands: usize) -> bool
     ensures { result ≡ passes commands k }
 {
-    let byte = [k];
-    let checked = input_plan::check(&byte, commands, 1, 1);
-    match checked {
-        Checked::Passed(_) => true,
-        Checked::Refused(_) => false,
-    }
+    input_plan::check(&[k], commands, 1, 1).is_ok()
 }
 
 // Two parts, one behind the other.
@@ -64,11 +38,9 @@ fn joined(a: Measure, b: Measure) -> Measure
     requires { (a.size ≤ 1025) × (b.size ≤ 1025) }
     ensures { Joined a b result }
 {
-    let before = a.above;
-    let behind = b.above;
     Measure {
         size: capped(a.size + b.size),
-        above: first(before, behind),
+        above: a.above.or(b.above),
         end: b.end,
     }
 }
@@ -78,10 +50,9 @@ fn grouped(inner: Measure, count: usize, end: usize) -> Measure
     requires { count * inner.size ≤ 255 * 1025 }
     ensures { Grouped inner count end result }
 {
-    let above = inner.above;
     Measure {
         size: capped(count * inner.size),
-        above,
+        above: inner.above,
         end,
     }
 }
@@ -92,16 +63,14 @@ fn command(text: &[u8], at: usize, left: usize, commands: usize) -> Measure
     ensures { Commanded commands text.now at left result }
 {
     let n = notation_parts::number_at(text, at);
-    if known(n.value as u8, commands) {
-        return Measure {
-            size: 1,
-            above: Above::Nothing,
-            end: n.end,
-        };
-    }
+    let above = if known(n.value as u8, commands) {
+        None
+    } else {
+        Some(left)
+    };
     Measure {
         size: 1,
-        above: Above::Left(left),
+        above,
         end: n.end,
     }
 }
@@ -117,7 +86,7 @@ fn item(text: &[u8], at: usize, commands: usize, nesting: usize) -> Measure
     if notation_parts::stands(text, at, b' ') {
         return Measure {
             size: 0,
-            above: Above::Nothing,
+            above: None,
             end: at + 1,
         };
     }
@@ -140,9 +109,10 @@ pub fn items(text: &[u8], at: usize, commands: usize, nesting: usize) -> Measure
 {
     let mut all = Measure {
         size: 0,
-        above: Above::Nothing,
+        above: None,
         end: at,
     };
+    // No count: the place moves by as much as an item takes.
     while notation_parts::goes_on(text, all.end) {
         all = joined(all, item(text, all.end, commands, nesting));
     }

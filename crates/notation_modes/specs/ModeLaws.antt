@@ -1,7 +1,7 @@
 -- The modes follow the machine (Scanner of the crate spec), and what each case of a function of this crate shows.
-use Rattle.std.specs.Prelude.{ℕ, suc, ◌+◌, ◌*◌, ◌<◌, ◌≤◌, ◌≡◌, refl, Bool, true, false, ◌&&◌, List, [], ◌∷◌, length, leb}
-use Rattle.std.proofs.Common.{arith, sym, ap, ◌∙◌, le-leb}
-use Rattle.std.proofs.lemmas.Bool.{false≢true, lt-leb}
+use Rattle.std.specs.Prelude.{ℕ, suc, ◌≡◌, refl, Bool, true, false, ◌&&◌, List, [], ◌∷◌, length, leb}
+use Rattle.std.proofs.Common.{sym, ap, ◌∙◌}
+use Rattle.std.proofs.lemmas.Bool.{false≢true}
 use Rattle.std.proofs.Math.Bool.{and-false}
 use Rattle.spec.specs.Notation.{Token, blank, opening, closing, minus, digit, other}
 use Rattle.spec.specs.Scanner.{Begun, free, sign, number, closed, count, Bracket, State, close, next, with_digit}
@@ -9,47 +9,6 @@ use Rattle.spec.specs.Scanner.{may_end, may_begin, is_free, may_digit, allowed}
 use Rattle.notation_modes.specs.declared.Mode.{Mode}
 use Rattle.notation_modes.specs.declared.Mode.TheVariants.{Free, Signed, Number, Closed, Count, Wrong}
 use Rattle.notation_modes.specs.Modes.{mode_of, ends, begins, after_minus, passing, after_digit, after_token}
-
--- Digits
-
-module _ (d : ℕ) where
-  pub number_none : d ≡ 0 → Wrong ≡ after_digit Free d
-  number_none e = simp (lt-leb 1 d (omega arith))
-
-  pub number_high : 24 < d → Wrong ≡ after_digit Free d
-  number_high h = simp (le-leb 1 d (omega arith), lt-leb d 24 h)
-
-  pub number_fits : 1 ≤ d → d ≤ 24 → Number d ≡ after_digit Free d
-  number_fits l h = simp (le-leb 1 d l, le-leb d 24 h)
-
-  pub more_high : (v : ℕ) → 24 < 10 * v + d → Wrong ≡ after_digit (Number v) d
-  more_high v h = simp (lt-leb (10 * v + d) 24 h)
-
-  pub more_fits : (v : ℕ) → 10 * v + d ≤ 24 → Number (10 * v + d) ≡ after_digit (Number v) d
-  more_fits v h = simp (le-leb (10 * v + d) 24 h)
-
-  pub count_none : (n : ℕ) → n ≡ 0 → Wrong ≡ after_digit (Count n) d
-  count_none n e = simp (lt-leb 1 n (omega arith))
-
-  pub count_high : (n : ℕ) → (n ≡ 0 → ⊥) → 255 < 10 * n + d → Wrong ≡ after_digit (Count n) d
-  count_high n z h = simp (le-leb 1 n (omega arith), lt-leb (10 * n + d) 255 h)
-
-  pub count_fits : (n : ℕ) → (n ≡ 0 → ⊥) → 10 * n + d ≤ 255 → Count (10 * n + d) ≡ after_digit (Count n) d
-  count_fits n z h = simp (le-leb 1 n (omega arith), le-leb (10 * n + d) 255 h)
-
-  pub count_begins : d ≤ 255 → Count d ≡ after_digit Closed d
-  count_begins h = simp (le-leb d 255 h)
-
-  pub count_over : 255 < d → Wrong ≡ after_digit Closed d
-  count_over h = simp (lt-leb d 255 h)
-
--- A closing bracket
-
-pub close_none : (m : Mode) (d : ℕ) → d ≡ 0 → Wrong ≡ after_token m d closing
-close_none m d e = simp (lt-leb 1 d (omega arith), and-false)
-
-pub close_one : (m : Mode) (d : ℕ) → (d ≡ 0 → ⊥) → ends m ≡ true → Closed ≡ after_token m d closing
-close_one m d n e = simp (e, le-leb 1 d (omega arith))
 
 -- A token goes on as the machine does, and is wrong where the machine does not allow it
 

@@ -12,6 +12,7 @@ use notation_tokens::Token;
 
 // What has begun: nothing, a minus, a number so far, a group that is closed, its count so far. Wrong: no ending could
 // mend the text any more.
+// Wrong is no None: specs/Modes.antt has it as a mode, which `after_token` leads to and never from.
 #[derive(Clone, Copy)]
 pub enum Mode {
     Free,
@@ -26,51 +27,34 @@ pub enum Mode {
 pub fn may_end(mode: Mode) -> bool
     ensures { result ≡ ends mode }
 {
-    match mode {
-        Mode::Free => true,
-        Mode::Signed => false,
-        Mode::Number(_) => true,
-        Mode::Closed => true,
-        Mode::Count(_) => true,
-        Mode::Wrong => false,
-    }
+    matches!(
+        mode,
+        Mode::Free | Mode::Number(_) | Mode::Closed | Mode::Count(_)
+    )
 }
 
 // May an item begin.
 fn may_begin(mode: Mode) -> bool
     ensures { result ≡ begins mode }
 {
-    match mode {
-        Mode::Free => true,
-        Mode::Signed => true,
-        Mode::Number(_) => false,
-        Mode::Closed => false,
-        Mode::Count(_) => false,
-        Mode::Wrong => false,
-    }
+    matches!(mode, Mode::Free | Mode::Signed)
 }
 
-// A number from 1 to 24 begins.
+// A number from 1 to 24 begins. It and a count have rules of their own: 0 is a count, but no digit goes on behind it.
 fn number(d: usize) -> Mode
     ensures { result ≡ after_digit Mode.Free d }
 {
-    if d == 0 {
-        return Mode::Wrong;
+    match d {
+        1..=24 => Mode::Number(d),
+        _ => Mode::Wrong,
     }
-    if 24 < d {
-        return Mode::Wrong;
-    }
-    Mode::Number(d)
 }
 
 // A number goes on.
 fn more_number(v: usize, d: usize) -> Mode
     ensures { result ≡ after_digit (Mode.Number v) d }
 {
-    if 2 < v {
-        return Mode::Wrong;
-    }
-    if 24 - 10 * v < d {
+    if 2 < v || 24 - 10 * v < d {
         return Mode::Wrong;
     }
     Mode::Number(10 * v + d)
@@ -80,13 +64,7 @@ fn more_number(v: usize, d: usize) -> Mode
 fn more_count(n: usize, d: usize) -> Mode
     ensures { result ≡ after_digit (Mode.Count n) d }
 {
-    if n == 0 {
-        return Mode::Wrong;
-    }
-    if 25 < n {
-        return Mode::Wrong;
-    }
-    if 255 - 10 * n < d {
+    if n == 0 || 25 < n || 255 - 10 * n < d {
         return Mode::Wrong;
     }
     Mode::Count(10 * n + d)
@@ -96,10 +74,11 @@ fn more_count(n: usize, d: usize) -> Mode
 fn count(d: usize) -> Mode
     ensures { result ≡ after_digit Mode.Closed d }
 {
-    if 255 < d {
-        return Mode::Wrong;
+    if d <= 255 {
+        Mode::Count(d)
+    } else {
+        Mode::Wrong
     }
-    Mode::Count(d)
 }
 
 // What has begun after a digit.
@@ -107,8 +86,7 @@ fn after_digit(mode: Mode, d: usize) -> Mode
     ensures { result ≡ after_digit mode d }
 {
     match mode {
-        Mode::Free => number(d),
-        Mode::Signed => number(d),
+        Mode::Free | Mode::Signed => number(d),
         Mode::Number(v) => more_number(v, d),
         Mode::Closed => count(d),
         Mode::Count(n) => more_count(n, d),
@@ -120,13 +98,11 @@ fn after_digit(mode: Mode, d: usize) -> Mode
 fn close(mode: Mode, depth: usize) -> Mode
     ensures { result ≡ after_token mode depth closing }
 {
-    if depth == 0 {
-        return Mode::Wrong;
+    if depth != 0 && may_end(mode) {
+        Mode::Closed
+    } else {
+        Mode::Wrong
     }
-    if may_end(mode) {
-        return Mode::Closed;
-    }
-    Mode::Wrong
 }
 
 // What has begun after a token.

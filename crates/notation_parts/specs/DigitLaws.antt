@@ -72,6 +72,13 @@ module _ (s : List ℕ) where
         → NumberRead s (digits_from v₀ (drop at (tokens s))) at (record { value = v; end = i })
     scan_end h = read_end _ at v i g.onward g.within (g.same ∙ no_more v (drop i (tokens s)) h)
 
+    -- the number ends with the text
+    pub scan_past : length s ≤ i → at ≤ length s → NoDigit (drop i (tokens s))
+        → NumberRead s (digits_from v₀ (drop at (tokens s))) at (record { value = v; end = length s })
+    scan_past l w h =
+        let e : i ≡ length s = omega (arith, g.within w) in
+        subst (λ z. NumberRead s (digits_from v₀ (drop at (tokens s))) at (record { value = v; end = z })) e (scan_end h)
+
   -- a number that stands at place `at`
   module _ (at : ℕ) where
     -- no digit does

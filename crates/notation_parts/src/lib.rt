@@ -1,9 +1,10 @@
 // What stands at a place of a text: whether a sequence goes on there, a blank, a bracket, a minus, a number.
 // The crate notation_laws defines each over the tokens left (specs/Here.antt).
+// A text stays whole and a place moves: from `&text[at..]` an answer would still have to say how much of it was read.
 
 #![tactic(auto)]
 
-ghost use Rattle.std.specs.Prelude.{◌+◌, ◌≡◌, drop};
+ghost use Rattle.std.specs.Prelude.{◌+◌, ◌≤◌, ◌≡◌, length, drop};
 ghost use Rattle.spec.specs.Answers.{yes_no};
 ghost use Rattle.spec.specs.Notation.{tokens};
 ghost use Rattle.notation_laws.specs.Here.{goes_on, Mark, marked, is_minus};
@@ -22,10 +23,7 @@ pub struct Number {
 pub fn goes_on(text: &[u8], at: usize) -> bool
     ensures { result ≡ goes_on (drop at (tokens text.now)) }
 {
-    if text.len() <= at {
-        return false;
-    }
-    text[at] != b')'
+    at < text.len() && text[at] != b')'
 }
 
 // Whether this byte stands here: a blank, a bracket or a minus.
@@ -33,37 +31,32 @@ pub fn stands(text: &[u8], at: usize, b: u8) -> bool
     requires { Mark b }
     ensures { result ≡ marked (drop at (tokens text.now)) b }
 {
-    if text.len() <= at {
-        return false;
-    }
-    text[at] == b
+    at < text.len() && text[at] == b
 }
 
 // The place behind a minus, if one stands here.
 pub fn past_minus(text: &[u8], at: usize) -> usize
     ensures { result ≡ at + yes_no (is_minus (drop at (tokens text.now))) }
 {
-    if stands(text, at, b'-') {
-        return at + 1;
-    }
-    at
+    if stands(text, at, b'-') { at + 1 } else { at }
 }
 
 // The digits from here on, of a number with this value so far.
-fn digits(text: &[u8], at: usize, value: usize) -> Number
-    requires { Small value (drop at (tokens text.now)) }
+fn digits(text: &[u8], at: usize, mut value: usize) -> Number
+    requires small { Small value (drop at (tokens text.now)) }
+    requires within { at ≤ length text.now }
     ensures { NumberRead text.now (digits_from value (drop at (tokens text.now))) at result }
 {
-    let mut value = value;
-    let mut i = at;
-    while i < text.len() {
+    for i in at..text.len() {
         let Token::Digit(d) = token_of(text[i]) else {
             return Number { value, end: i };
         };
         value = 10 * value + d;
-        i += 1;
     }
-    Number { value, end: i }
+    Number {
+        value,
+        end: text.len(),
+    }
 }
 
 // The number that stands here, or 1 where no digit does.

@@ -1,27 +1,11 @@
 -- The depth follows the machine (Scanner of the crate spec), the places follow the definitions, and what each case of a
 -- function of this crate shows.
-use Rattle.std.specs.Prelude.{ℕ, zero, suc, ◌+◌, ◌-◌, ◌<◌, ◌≤◌, ◌≡◌, refl, true, false, List, [], ◌∷◌, length, leb}
-use Rattle.std.proofs.Common.{arith, ap, le-leb, eq-eqb, ne_eqb}
-use Rattle.std.proofs.Math.Bool.{and-false}
-use Rattle.std.proofs.Math.Option.{none, some}
-use Rattle.std.proofs.lemmas.Bool.{lt-leb}
+use Rattle.std.specs.Prelude.{ℕ, zero, suc, ◌+◌, ◌-◌, ◌≤◌, ◌≡◌, refl, List, [], ◌∷◌, length, leb}
+use Rattle.std.proofs.Common.{arith, ap}
 use Rattle.spec.specs.Notation.{Token, blank, opening, closing, minus, digit, other, first, first_deep}
 use Rattle.spec.specs.Scanner.{Bracket, State, close, next}
 use Rattle.notation_laws.specs.FirstLaws.{found_first}
-use Rattle.notation_modes.specs.declared.Mode.{Mode}
-use Rattle.notation_modes.specs.Modes.{ends}
-use Rattle.notation_scanner.specs.Places.{depth_after, deep_here, end_place}
-
--- The end
-
-pub end_unfinished : (m : Mode) (d n : ℕ) → ends m ≡ false → some n ≡ end_place m d n
-end_unfinished m d n e = simp e
-
-pub end_inside : (m : Mode) (d n : ℕ) → 0 < d → some n ≡ end_place m d n
-end_inside m d n h = simp (ne_eqb d 0 (omega arith), and-false)
-
-pub end_good : (m : Mode) (d n : ℕ) → ends m ≡ true → d ≤ 0 → none ≡ end_place m d n
-end_good m d n e h = simp (e, eq-eqb d 0 (omega arith))
+use Rattle.notation_scanner.specs.Places.{depth_after, deep_here}
 
 -- How many brackets are open
 
@@ -46,12 +30,6 @@ depth_low d (digit x) = omega arith
 depth_low d other = omega arith
 
 -- Brackets too deep
-
-pub deep_low : (d i : ℕ) → d < 8 → none ≡ deep_here d i opening
-deep_low d i h = simp (lt-leb 8 d h)
-
-pub deep_high : (d i : ℕ) → 8 ≤ d → some i ≡ deep_here d i opening
-deep_high d i h = simp (le-leb 8 d h)
 
 close_deep : (d i : ℕ) (r : List Token) → first_deep d i (closing ∷ r) ≡ first_deep (d - 1) (suc i) r
 unfolding first_deep

@@ -1,13 +1,13 @@
 -- How many brackets are open after a token, where a text is wrong, and where it nests too deep.
 use Rattle.std.specs.Prelude.{ℕ, suc, ◌-◌, ◌≡◌, Bool, true, false, ◌&&◌, List, [], ◌∷◌, length, leb, eqb}
 use Rattle.std.proofs.Math.Option.{Option, none, some}
+use Rattle.std.specs.Prelude as rust
+use Rattle.spec.specs.Answers.{told_option}
 use Rattle.spec.specs.Table.{found_step, Answer, or_else, first_line, line_at}
 use Rattle.spec.specs.Notation.{Token, blank, opening, closing, minus, digit, other, tokens, first_deep}
 use Rattle.spec.specs.Scanner.{Outcome, says, wrong, start, run}
 use Rattle.notation_modes.specs.declared.Mode.{Mode}
 use Rattle.notation_modes.specs.Modes.{ends}
-use Rattle.notation_scanner.specs.declared.Place.{Place}
-use Rattle.notation_scanner.specs.declared.Place.TheVariants.{Nowhere, At}
 use Rattle.notation_scanner.specs.declared.Faults.{Faults}
 
 abbrev pub depth_after : ℕ → Token → ℕ
@@ -18,9 +18,9 @@ depth_after d minus = d
 depth_after d (digit x) = d
 depth_after d other = d
 
-abbrev pub told_place : Place → Option ℕ
-told_place Nowhere = none
-told_place (At i) = some i
+-- a place of the program's, or none
+abbrev pub told_place : rust.Option ℕ → Option ℕ
+told_place = told_option
 
 -- place i, if the token there is a bracket around which 8 are open
 abbrev pub deep_here : ℕ → ℕ → Token → Option ℕ

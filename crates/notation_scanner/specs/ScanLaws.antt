@@ -1,5 +1,6 @@
 -- One pass over a text: the machine has come to place i, in a state of this mode and depth.
 use Rattle.std.specs.Prelude.{ℕ, suc, ◌+◌, ◌-◌, ◌<◌, ◌≤◌, ◌≡◌, refl, Bool, true, false, ◌&&◌, List, [], ◌∷◌, get_or, drop}
+use Rattle.std.specs.Prelude as rust
 use Rattle.std.proofs.Common.{arith, add-one, ◌∙◌}
 use Rattle.std.proofs.Math.Path.{sym, ap}
 use Rattle.std.proofs.Math.Option.{Option, none, some}
@@ -14,8 +15,6 @@ use Rattle.notation_laws.specs.FirstLaws.{first_assoc, first_alone}
 use Rattle.notation_laws.specs.TokensLaws.{tokens_at, tokens_past, tokens_left}
 use Rattle.notation_modes.specs.declared.Mode.{Mode}
 use Rattle.notation_modes.specs.declared.Mode.TheVariants.{Free, Wrong}
-use Rattle.notation_scanner.specs.declared.Place.{Place}
-use Rattle.notation_scanner.specs.declared.Place.TheVariants.{Nowhere}
 use Rattle.notation_scanner.specs.declared.Faults.{Faults}
 use Rattle.notation_modes.specs.Modes.{mode_of, passing, after_token}
 use Rattle.notation_modes.specs.ModeLaws.{after_like, ends_like, passes, fails}
@@ -39,7 +38,7 @@ end_like : (b : Bool) (t : Items) (n : ℕ) → wrong_place n (run_step b (says 
 end_like true t n = refl
 end_like false t n = ap some (omega arith)
 
-pub record Scanning (s : List ℕ) (mode : Mode) (depth : ℕ) (deep : Place) (i : ℕ) : Type 0 where
+pub record Scanning (s : List ℕ) (mode : Mode) (depth : ℕ) (deep : rust.Option ℕ) (i : ℕ) : Type 0 where
   pub σ : State
   pub same : run start (tokens s) ≡ run σ (drop i (tokens s))
   pub like : mode ≡ mode_of σ.begun
@@ -48,7 +47,7 @@ pub record Scanning (s : List ℕ) (mode : Mode) (depth : ℕ) (deep : Place) (i
   pub low : depth ≤ i
   pub high : i ≤ length s
 
-pub scanning_start : (s : List ℕ) → Scanning s Free 0 Nowhere 0
+pub scanning_start : (s : List ℕ) → Scanning s Free 0 rust.None 0
 scanning_start s = record {
   σ = start;
   same = refl;
@@ -60,7 +59,7 @@ scanning_start s = record {
 }
 
 module _
-    {s : List ℕ} {mode : Mode} {depth : ℕ} {deep : Place} {i : ℕ} (g : Scanning s mode depth deep i) (l : i < length s)
+    {s : List ℕ} {mode : Mode} {depth : ℕ} {deep : rust.Option ℕ} {i : ℕ} (g : Scanning s mode depth deep i) (l : i < length s)
     {x : Token} (e : x ≡ token_of (get_or s i 0)) where
   here : drop i (tokens s) ≡ x ∷ drop (suc i) (tokens s)
   here = rw add-one at (tokens_at s i l e)
@@ -73,7 +72,7 @@ module _
       ∙ ap (λ d. after_token (mode_of g.σ.begun) d x) (sym g.opened)
       ∙ after_like g.σ x n
 
-  pub scanning_again : {mode' : Mode} {depth' : ℕ} {deep' : Place} → mode' ≡ after_token mode depth x
+  pub scanning_again : {mode' : Mode} {depth' : ℕ} {deep' : rust.Option ℕ} → mode' ≡ after_token mode depth x
       → (mode' ≡ Wrong → ⊥) → told_place deep' ≡ first (told_place deep) (deep_here depth i x)
       → depth' ≡ depth_after depth x → Scanning s mode' depth' deep' (i + 1)
   scanning_again {mode'} {depth'} {deep'} m w p d =
@@ -110,14 +109,13 @@ module _
         deep_at = λ z. absurd (some-none (sym p ∙ z));
       }
 
-module _ {s : List ℕ} {mode : Mode} {depth : ℕ} {deep : Place} {i : ℕ} (g : Scanning s mode depth deep i) where
-  pub scanning_end : {f : Faults} → length s ≤ i → told_place f.wrong ≡ end_place mode depth i → f.deep ≡ deep
+module _ {s : List ℕ} {mode : Mode} {depth : ℕ} {deep : rust.Option ℕ} {i : ℕ} (g : Scanning s mode depth deep i) where
+  pub scanning_end : {f : Faults} → length s ≤ i → told_place f.wrong ≡ end_place mode depth (length s) → f.deep ≡ deep
       → Finds s f
   unfolding run first_deep
   scanning_end {f} l p d =
       let b = may_end g.σ.begun && eqb (length g.σ.around) 0 in
-      let n : i ≡ length s = omega (arith, g.high) in
-      let q : end_place mode depth i ≡ end_step b (length s) = rw (g.like, ends_like, ← g.opened, n) in
+      let q : end_place mode depth (length s) ≡ end_step b (length s) = rw (g.like, ends_like, ← g.opened) in
       record {
         wrong_at =
             p ∙ q

@@ -20,23 +20,12 @@ pub enum Token {
 pub fn token_of(b: u8) -> Token
     ensures { told_token result ≡ token_of b }
 {
-    if b == 32 {
-        return Token::Blank;
+    match b {
+        b' ' => Token::Blank,
+        b'(' => Token::Opening,
+        b')' => Token::Closing,
+        b'-' => Token::Minus,
+        b'0'..=b'9' => Token::Digit((b - b'0') as usize),
+        _ => Token::Other,
     }
-    if b == 40 {
-        return Token::Opening;
-    }
-    if b == 41 {
-        return Token::Closing;
-    }
-    if b == 45 {
-        return Token::Minus;
-    }
-    if b < 48 {
-        return Token::Other;
-    }
-    if 57 < b {
-        return Token::Other;
-    }
-    Token::Digit((b - 48) as usize)
 }

@@ -1,6 +1,7 @@
 -- The measure of a text that lines 13 and 14 let pass decides lines 8 and 15.
 use Rattle.std.specs.Prelude.{ℕ, ◌-◌, ◌≤◌, ◌<◌, ◌≡◌, List, [], ◌∷◌, length, drop}
 use Rattle.std.proofs.Common.{arith, sym, ◌∙◌, ap, lt-ltb, le-ltb}
+use Rattle.std.specs.Prelude as rust
 use Rattle.std.proofs.Math.Option.{none, some}
 use Rattle.std.proofs.lemmas.List.{length-map}
 use Rattle.spec.specs.Table.{line, refused, given, or_else, first_line}
@@ -10,7 +11,6 @@ use Rattle.spec.specs.WriteOut.{items_of, above_line, written_line}
 use Rattle.notation_laws.specs.Here.{Here}
 use Rattle.notation_laws.specs.WholeLaws.{whole}
 use Rattle.notation_laws.specs.AboveLaws.{above_within}
-use Rattle.notation_measure.specs.declared.Above.TheVariants.{Nothing, Left}
 use Rattle.notation_measure.specs.declared.Measure.{Measure}
 use Rattle.notation_measure.specs.Measured.{told_above, Measured}
 use Rattle.notation_measure.specs.CappedLaws.{capped_same, capped_exact}
@@ -22,7 +22,7 @@ all {s = s} g = whole s g.text g.shallow
 
 module _ {n : ℕ} {s : List ℕ} (g : Scanned s) {r : Measure} (m : Measured n s 0 8 (all g) r) where
   -- a command above N
-  module _ {l : ℕ} (e : r.above ≡ Left l) where
+  module _ {l : ℕ} (e : r.above ≡ rust.Some l) where
     above_found : first_above n (items_of s) ≡ some l
     above_found = sym m.above ∙ ap told_above e
 
@@ -33,7 +33,7 @@ module _ {n : ℕ} {s : List ℕ} (g : Scanned s) {r : Measure} (m : Measured n 
         ≡ or_else (first_line (above_line n s ∷ written_line s ∷ [])) (size_of (items_of s))
     above_refused = rw above_found
 
-  module _ (e : r.above ≡ Nothing) where
+  module _ (e : r.above ≡ rust.None) where
     none_found : first_above n (items_of s) ≡ none
     none_found = sym m.above ∙ ap told_above e
 

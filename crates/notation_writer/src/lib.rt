@@ -1,6 +1,7 @@
 // The plan that a sequence writes out, written behind what stands in an area: a reader of sequences and a reader of
 // items that call each other. A group is measured first, since its count stands behind it; then it is written once and
 // copied, and a minus undoes the whole where it stands.
+// Text and area stay whole and places move: from parts of them an answer would still have to say how much was used.
 
 #![tactic(auto)]
 
@@ -60,6 +61,7 @@ pub fn items(text: &[u8], at: usize, nesting: usize, area: &mut [u8], to: usize)
         → Wrote text.now at nesting area.old to m area.new result }
 {
     let mut reached = Reached { at, to };
+    // No count: the place moves by as much as an item takes.
     while notation_parts::goes_on(text, reached.at) {
         reached = item(text, reached.at, nesting, area, reached.to);
     }

@@ -1,13 +1,13 @@
 -- The loop that takes pairs off a piling: l letters are taken off in front, and the beads left are the stacks of the
 -- word y that is left.
-use Rattle.std.specs.Prelude.{ℕ, ◌+◌, ◌<◌, ◌≤◌, ◌≡◌, List, [], length, get_or, set}
-use Rattle.std.proofs.Common.{arith}
+use Rattle.std.specs.Prelude.{ℕ, ◌+◌, ◌<◌, ◌≡◌, refl, List, [], length, get_or, set, Option, None, Some}
+use Rattle.std.proofs.Common.{arith, subst}
 use Rattle.theory_words.specs.TraceLaws.{~_refl}
 use Rattle.theory_conjugacy.specs.Core.{Cores, bare}
 use Rattle.theory_conjugacy.specs.CoreLaws.{peels_length, peels_cores}
 use Rattle.input_chains.specs.Conflicts.{Conflicts}
 use Rattle.spec.specs.Letters.{alphabet}
-use Rattle.array_counts.specs.First.{FirstWith}
+use Rattle.array_counts.specs.First.{FirstWith, FirstFound}
 use Rattle.array_row.specs.WritingLaws.{Writing, writing_start, writing_end, writing_fits, writing_again}
 use Rattle.piling_read.specs.Reading.{lowest, Room, Left}
 use Rattle.piling_core.specs.Peeling.{Pair, Movable, Moved, Peelable, Peeled}
@@ -19,10 +19,10 @@ Peeling c rows x before heights at = Writing (Left rows heights c at) (Cores (al
 
 module _ {c : List ℕ} {rows : List (List ℕ)} {x before heights at lead : List ℕ} {l : ℕ} {y : List ℕ}
     (g : Peeling c rows x before heights at lead l y) where
-  peeling_end : {k : ℕ} → FirstWith (Pair rows heights at) k → 24 ≤ k → Peeled c rows x before heights at lead l y
-  peeling_end f h = record {
+  peeling_end : FirstFound (Pair rows heights at) None → Peeled c rows x before heights at lead l y
+  peeling_end f = record {
     left = g.left;
-    cores = writing_end g (bare (no_pair_tight g.left f h) (~_refl (alphabet c) y));
+    cores = writing_end g (bare (no_pair_tight g.left f (omega arith)) (~_refl (alphabet c) y));
     count = g.count;
     kept = g.kept;
   }
@@ -47,51 +47,65 @@ module _ {c : List ℕ} {rows : List (List ℕ)} {x before heights at lead : Lis
           )
 
 -- the loop's state, for every catalogue and word that the arrays stand for
-pub record Taken (conflicts rows : List (List ℕ)) (heights₀ at₀ before heights at lead : List ℕ) (l k : ℕ)
-    : Type 0 where
-  pub first : FirstWith (Pair rows heights at) k
-  pub peeling : (c x : List ℕ) → Peelable c conflicts rows heights₀ at₀ x before
+pub record Taken (conflicts rows₀ : List (List ℕ)) (heights₀ at₀ before : List ℕ) (rows : List (List ℕ))
+    (heights at lead : List ℕ) (l : ℕ) (next : Option ℕ) : Type 0 where
+  pub first : FirstFound (Pair rows heights at) next
+  pub same : rows ≡ rows₀
+  pub peeling : (c x : List ℕ) → Peelable c conflicts rows₀ heights₀ at₀ x before
       → (y : List ℕ) × Peeling c rows x before heights at lead l y
 
-pub taken_start : {conflicts rows : List (List ℕ)} {heights at lead : List ℕ} {k : ℕ}
-    → FirstWith (Pair rows heights at) k → Taken conflicts rows heights at lead heights at lead 0 k
+pub taken_start : {conflicts rows : List (List ℕ)} {heights at lead : List ℕ} {next : Option ℕ}
+    → FirstFound (Pair rows heights at) next → Taken conflicts rows heights at lead rows heights at lead 0 next
 taken_start f = record {
   first = f;
+  same = refl;
   peeling = λ c x p. (x, writing_start p.left p.fits);
 }
 
-module _ {conflicts rows : List (List ℕ)} {heights₀ at₀ before heights at lead : List ℕ} {l k : ℕ}
-    (w : Taken conflicts rows heights₀ at₀ before heights at lead l k) where
-  pub taken_end : 24 ≤ k → (c x : List ℕ) → Peelable c conflicts rows heights₀ at₀ x before
-      → (z : List ℕ) × Peeled c rows x before heights at lead l z
-  taken_end h c x p = let (y, g) = w.peeling c x p in (y, peeling_end g w.first h)
+module _ {conflicts rows₀ : List (List ℕ)} {heights₀ at₀ before : List ℕ} {rows : List (List ℕ)}
+    {heights at lead : List ℕ} {l : ℕ} {next : Option ℕ}
+    (w : Taken conflicts rows₀ heights₀ at₀ before rows heights at lead l next) where
+  -- what the search has told
+  told_pair : {o : Option ℕ} → next ≡ o → FirstFound (Pair rows heights at) o
+  told_pair e = subst (FirstFound (Pair rows heights at)) e w.first
 
-  pub taken_long : (c : List ℕ) × (x : List ℕ) × Peelable c conflicts rows heights₀ at₀ x before
+  pub taken_end : next ≡ None → (c x : List ℕ) → Peelable c conflicts rows₀ heights₀ at₀ x before
+      → (z : List ℕ) × Peeled c rows x before heights at lead l z
+  taken_end e c x p = let (y, g) = w.peeling c x p in (y, peeling_end g (told_pair e))
+
+  pub taken_long : (c : List ℕ) × (x : List ℕ) × Peelable c conflicts rows₀ heights₀ at₀ x before
       → length lead ≡ length before
   taken_long (c, x, p) = (w.peeling c x p).1.long
 
-  module _ (h : k < 24) where
-    pub taken_again : {down up : List ℕ} {next : ℕ} → Moved (get_or conflicts k []) heights at down up
-        → FirstWith (Pair rows down up) next
-        → Taken conflicts rows heights₀ at₀ before down up (set lead l (lowest rows at k)) (l + 1) next
+  module _ {k : ℕ} (e : next ≡ Some k) where
+    pair_low : k < 24
+    pair_low = (told_pair e).0
+
+    pair_here : FirstWith (Pair rows heights at) k
+    pair_here = (told_pair e).1
+
+    pub taken_again : {down up : List ℕ} {again : Option ℕ} → Moved (get_or conflicts k []) heights at down up
+        → FirstFound (Pair rows down up) again
+        → Taken conflicts rows₀ heights₀ at₀ before rows down up (set lead l (lowest rows at k)) (l + 1) again
     taken_again d f = record {
       first = f;
-      peeling = λ c x p. peeling_again (w.peeling c x p).1 w.first h p.table d;
+      same = w.same;
+      peeling = λ c x p. peeling_again (w.peeling c x p).1 pair_here pair_low p.table d;
     }
 
-    module _ (some : (c : List ℕ) × (x : List ℕ) × Peelable c conflicts rows heights₀ at₀ x before) where
+    module _ (some : (c : List ℕ) × (x : List ℕ) × Peelable c conflicts rows₀ heights₀ at₀ x before) where
       pub taken_index : get_or at k 0 < 1024
       taken_index =
           let (c, x, p) = some in
-          omega (arith, (w.first.found h).two, (w.peeling c x p).1.left.room.high k h)
+          omega (arith, (pair_here.found pair_low).two, (w.peeling c x p).1.left.room.high k pair_low)
 
       pub taken_fits : l < length lead
-      taken_fits = let (c, x, p) = some in peeling_fits (w.peeling c x p).1 w.first h
+      taken_fits = let (c, x, p) = some in peeling_fits (w.peeling c x p).1 pair_here pair_low
 
       pub taken_movable : Movable (get_or conflicts k []) heights at
-      taken_movable = let (c, x, p) = some in peeling_movable (w.peeling c x p).1 w.first h p.table
+      taken_movable = let (c, x, p) = some in peeling_movable (w.peeling c x p).1 pair_here pair_low p.table
 
       pub taken_room : {down up : List ℕ} → Moved (get_or conflicts k []) heights at down up → Room rows down up
       taken_room d =
           let (c, x, p) = some in
-          (peeling_again (w.peeling c x p).1 w.first h p.table d).1.left.room
+          (peeling_again (w.peeling c x p).1 pair_here pair_low p.table d).1.left.room

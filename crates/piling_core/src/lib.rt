@@ -4,12 +4,13 @@
 #![tactic(auto)]
 
 ghost use Rattle.std.specs.Prelude.{ℕ, ◌≤◌, ◌≡◌, true, List, ◌↔◌, length};
-ghost use Rattle.array_counts.specs.First.{FirstWith};
+ghost use Rattle.array_counts.specs.First.{FirstFound};
 ghost use Rattle.piling_read.specs.Reading.{Room};
 ghost use Rattle.piling_core.specs.Peeling.{Ends, Pair, Movable, Moved, Peelable, Peeled};
 
 use array_counts::{lift, lower};
 use input_plan::undo;
+use piling_stacks::Piling;
 
 // Whether of the beads from `at` up to `height` the lowest is a letter and the highest, another bead, is its undo.
 fn ends(row: &[u8; 1024], height: u16, at: u16) -> bool
@@ -25,19 +26,17 @@ fn ends(row: &[u8; 1024], height: u16, at: u16) -> bool
     false
 }
 
-// The first row with a pair, or 24 where there is none.
-fn pair(rows: &[[u8; 1024]; 24], heights: &[u16; 24], at: &[u16; 24]) -> usize
-    requires { Room rows.now heights.now at.now }
-    ensures { FirstWith (Pair rows.now heights.now at.now) result }
+// The first row with a pair.
+fn pair(piling: &Piling, at: &[u16; 24]) -> Option<usize>
+    requires { Room piling.now.rows piling.now.heights at.now }
+    ensures { FirstFound (Pair piling.now.rows piling.now.heights at.now) result }
 {
-    let mut i = 0;
-    while i < 24 {
-        if ends(&rows[i], heights[i], at[i]) {
-            return i;
+    for i in 0..24 {
+        if ends(&piling.rows[i], piling.heights[i], at[i]) {
+            return Some(i);
         }
-        i += 1;
     }
-    24
+    None
 }
 
 // Each height less the line's number there, and each bottom plus it.
@@ -52,27 +51,26 @@ fn narrow(heights: &mut [u16; 24], at: &mut [u16; 24], line: &[u16; 24])
 
 // Takes pairs off until none is left: the letters in front are written to lead, and their number is told.
 pub fn peel(
-    rows: &[[u8; 1024]; 24],
-    heights: &mut [u16; 24],
+    piling: &mut Piling,
     at: &mut [u16; 24],
     conflicts: &[[u16; 24]; 24],
     lead: &mut [u8],
 ) -> usize
     requires { (c : List ℕ) × (x : List ℕ)
-        × Peelable c conflicts.now rows.now heights.old at.old x lead.old }
-    ensures { (c x : List ℕ)
-        → Peelable c conflicts.now rows.now heights.old at.old x
-        lead.old
-        → (z : List ℕ) × Peeled c rows.now x lead.old heights.new
+        × Peelable c conflicts.now piling.old.rows piling.old.heights at.old x lead.old }
+    ensures rows { piling.new.rows ≡ piling.old.rows }
+    ensures peeled { (c x : List ℕ)
+        → Peelable c conflicts.now piling.old.rows piling.old.heights at.old x lead.old
+        → (z : List ℕ) × Peeled c piling.new.rows x lead.old piling.new.heights
         at.new lead.new result z }
 {
     let mut l = 0;
-    let mut k = pair(rows, heights, at);
-    while k < 24 {
-        lead[l] = rows[k][at[k] as usize];
+    let mut first = pair(piling, at);
+    while let Some(k) = first {
+        lead[l] = piling.rows[k][at[k] as usize];
         l += 1;
-        narrow(heights, at, &conflicts[k]);
-        k = pair(rows, heights, at);
+        narrow(&mut piling.heights, at, &conflicts[k]);
+        first = pair(piling, at);
     }
     l
 }

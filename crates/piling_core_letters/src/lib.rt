@@ -21,15 +21,14 @@ pub fn core_of(plan: &[u8], conflicts: &[[u16; 24]; 24], area: &mut [u8], lead: 
     ensures { (c : List ℕ) → Passed c conflicts.now plan.now
         → CoreLetters c plan.now area.new lead.new result.core result.lead }
 {
-    let mut rows = piling_stacks::blank_rows();
-    let mut heights = array_counts::blank_heights();
-    let mut places = piling_pairs::blank_places();
-    let piled = piling_pairs::pile(plan, conflicts, &mut rows, &mut heights, &mut places);
+    let mut piling = piling_stacks::Piling::blank();
+    let mut places: [u16; 1024] = array_row::row(0);
+    let piled = piling_pairs::pile(plan, conflicts, &mut piling, &mut places);
     if piled.letters == 0 {
         return Cored { core: 0, lead: 0 };
     }
     let mut bottoms = array_counts::blank_heights();
-    let taken = piling_core::peel(&rows, &mut heights, &mut bottoms, conflicts, lead);
+    let taken = piling_core::peel(&mut piling, &mut bottoms, conflicts, lead);
     let paired = 2 * piled.pairs;
     let left = piling_left::letters_left(plan, &places[..paired], &lead[..taken], area);
     Cored {

@@ -1,11 +1,13 @@
 -- Laws of undoing a plan on a piling.
 use Rattle.std.specs.Prelude.{ℕ, ◌+◌, ◌-◌, ◌≤◌, ◌<◌, ◌≡◌, refl, true, false, ◌↔◌, get_or, take}
-use Rattle.std.proofs.Common.{sym, ◌∙◌, ap, subst, arith, length-take, take_all, eq-eqb, ne_eqb}
+use Rattle.std.proofs.Common.{sym, ◌∙◌, ap, subst, arith, length-take, length-append, add-one, take-suc, take_at, take_all, eq-eqb, ne_eqb}
 use Rattle.std.proofs.lemmas.Bool.{false≢true}
-use mathlib.Core.List.{List, [], ◌∷◌, reverse}
+use mathlib.Core.List.{List, [], ◌∷◌, ◌++◌, reverse}
+use Rattle.std.specs.List.{push}
+use Rattle.std.proofs.Math.Seq.{take-append_seam, get_or-append_seam}
 use Rattle.std.proofs.Math.Decide.{ℕ_discrete}
 use Rattle.std.proofs.Math.ListN.{length}
-use Rattle.std.proofs.lemmas.List.{length-reverse}
+use Rattle.std.proofs.lemmas.List.{length-reverse, get_or_at}
 use Rattle.theory_words.specs.Filter.{filter}
 use Rattle.theory_words.specs.Trace.{First}
 use Rattle.theory_words.specs.Group as Group
@@ -19,6 +21,7 @@ use Rattle.spec.specs.AlphabetLaws.{command_undone}
 use Rattle.spec.specs.Letters.{alphabet, letters}
 use Rattle.spec_laws.specs.LettersLaws.{letters-length}
 use Rattle.input_plan.specs.Lettered.{Lettered}
+use Rattle.spec.specs.Plan.{passes}
 use Rattle.spec_laws.specs.PlanLaws.{passing_at}
 use Rattle.piling_stacks.specs.Piling.{Piled, Counted}
 use Rattle.piling_stacks.specs.Push.{Facing, WithNewest}
@@ -173,11 +176,11 @@ module _ (c w : List ℕ) where
       go [] h = empty
       go (b ∷ z) h = absurd (omega arith)
 
--- the loop
+-- the loop: the bytes of rest are still to be undone, from the last to the first
 pub record Undoing (w : List ℕ) (conflicts rows₀ : List (List ℕ)) (heights₀ : List ℕ) (n : ℕ) (rows : List (List ℕ))
-    (heights : List ℕ) (spare i : ℕ) : Type 0 where
-  pub within : i ≤ length w
-  pub left : (c z : List ℕ) → Opposed c w conflicts rows₀ heights₀ n z → Left c w z rows heights spare i
+    (heights : List ℕ) (spare : ℕ) (rest : List ℕ) : Type 0 where
+  pub within : rest ≡ take (length rest) w
+  pub left : (c z : List ℕ) → Opposed c w conflicts rows₀ heights₀ n z → Left c w z rows heights spare (length rest)
 
 module _ {w : List ℕ} {conflicts rows₀ : List (List ℕ)} {heights₀ : List ℕ} {n : ℕ} where
   pub undoing_many : length w < n → (c z : List ℕ) → Opposed c w conflicts rows₀ heights₀ n z
@@ -186,50 +189,73 @@ module _ {w : List ℕ} {conflicts rows₀ : List (List ℕ)} {heights₀ : List
       let f = rw (← take_all (length w) w (omega arith)) at e in
       omega (arith, same_short c w z (length w) o.reduced f, o.counted.count)
 
-  pub undoing_start : n ≤ length w → Undoing w conflicts rows₀ heights₀ n rows₀ heights₀ (length w - n) (length w)
+  pub undoing_start : n ≤ length w → Undoing w conflicts rows₀ heights₀ n rows₀ heights₀ (length w - n) w
   undoing_start l = record {
-    within = omega arith;
+    within = sym (take_all (length w) w (omega arith));
     left = λ c z o. left_start c w l o.counted o.reduced;
   }
 
-  module _ {rows : List (List ℕ)} {heights : List ℕ} {spare i : ℕ}
-      (p : Undoing w conflicts rows₀ heights₀ n rows heights spare i) (l : 0 < i) where
-    last_place : i - 1 < length w
-    last_place = omega (arith, p.within)
+  module _ {rows : List (List ℕ)} {heights : List ℕ} {spare : ℕ} {rest : List ℕ} (less : List ℕ)
+      (byte : ℕ) (p : Undoing w conflicts rows₀ heights₀ n rows heights spare rest) (e : rest ≡ push less byte) where
+    one_more : length rest ≡ length less + 1
+    one_more = ap length e ∙ length-append less (byte ∷ [])
+
+    last_place : length less < length w
+    last_place = omega (arith, one_more, ap length p.within, length-take (length rest) w)
+
+    -- the bytes of w before the place of the byte, and the byte
+    both_within : less ++ byte ∷ [] ≡ take (length less) w ++ get_or w (length less) 0 ∷ []
+    both_within =
+        sym e ∙ p.within ∙ ap (λ k. take k w) (one_more ∙ add-one (length less))
+        ∙ take-suc w (length less) 0 last_place
+
+    less_within : less ≡ take (length less) w
+    less_within =
+        sym (take-append_seam less (byte ∷ [])) ∙ ap (take (length less)) both_within
+        ∙ take_at (take (length less) w) (get_or w (length less) 0 ∷ []) (length less)
+        (omega (arith, length-take (length less) w, last_place))
+
+    last_byte : byte ≡ get_or w (length less) 0
+    last_byte =
+        sym (get_or-append_seam less byte [] 0) ∙ ap (λ k. get_or k (length less) 0) both_within
+        ∙ get_or_at (take (length less) w) (get_or w (length less) 0) [] 0 (length less)
+        (omega (arith, length-take (length less) w, last_place))
 
     pub undoing_rest : {c z : List ℕ} → Opposed c w conflicts rows₀ heights₀ n z
-        → Left c w z rows heights spare (i - 1 + 1)
-    undoing_rest {c} {z} o =
-        let e : i ≡ i - 1 + 1 = omega arith in
-        subst (λ j. Left c w z rows heights spare j) e (p.left c z o)
+        → Left c w z rows heights spare (length less + 1)
+    undoing_rest {c} {z} o = subst (λ j. Left c w z rows heights spare j) one_more (p.left c z o)
 
     pub undoing_undoable : {c z : List ℕ} (o : Opposed c w conflicts rows₀ heights₀ n z)
-        → Undoable c conflicts rows heights (get_or w (i - 1) 0) spare (undoing_rest o).word
+        → Undoable c conflicts rows heights byte spare (undoing_rest o).word
     undoing_undoable {c} o = record {
       few = o.few;
-      passing = passing_at (commands c) w o.passing (i - 1) last_place;
+      passing = ap (passes (commands c)) last_byte ∙ passing_at (commands c) w o.passing (length less) last_place;
       table = o.table;
       piled = (undoing_rest o).piled;
-      room = omega (arith, (undoing_rest o).spared, p.within, o.short);
+      room = omega (arith, (undoing_rest o).spared, last_place, o.short);
     }
 
     module _ {rows' : List (List ℕ)} {heights' : List ℕ} {r : ℕ}
-        (u : (c z : List ℕ) → Undoable c conflicts rows heights (get_or w (i - 1) 0) spare z
-        → Undone c rows' heights' (get_or w (i - 1) 0) spare z r) where
-      pub undoing_again : r ≤ spare → Undoing w conflicts rows₀ heights₀ n rows' heights' (spare - r) (i - 1)
+        (u : (c z : List ℕ) → Undoable c conflicts rows heights byte spare z
+        → Undone c rows' heights' byte spare z r) where
+      last_undone : {c z : List ℕ} (o : Opposed c w conflicts rows₀ heights₀ n z)
+          → Undone c rows' heights' (get_or w (length less) 0) spare (undoing_rest o).word r
+      last_undone {c} o =
+          subst (λ b. Undone c rows' heights' b spare (undoing_rest o).word r) last_byte
+          (u c (undoing_rest o).word (undoing_undoable o))
+
+      pub undoing_again : r ≤ spare → Undoing w conflicts rows₀ heights₀ n rows' heights' (spare - r) less
       undoing_again k = record {
-        within = omega (arith, p.within);
-        left = λ c z o. left_again c w last_place (undoing_rest o) (u c (undoing_rest o).word (undoing_undoable o)) k;
+        within = less_within;
+        left = λ c z o. left_again c w last_place (undoing_rest o) (last_undone o) k;
       }
 
       pub undoing_over : spare < r → (c z : List ℕ) → Opposed c w conflicts rows₀ heights₀ n z
           → ¬ (Group.◌≈◌ (alphabet c) z (reverse (letters w)))
-      undoing_over k c z o =
-          left_over c w last_place (undoing_rest o) (u c (undoing_rest o).word (undoing_undoable o)) k
+      undoing_over k c z o = left_over c w last_place (undoing_rest o) (last_undone o) k
 
-  pub undoing_end : {rows : List (List ℕ)} {heights : List ℕ} {spare i : ℕ} → i ≤ 0
-      → Undoing w conflicts rows₀ heights₀ n rows heights spare i → (c z : List ℕ)
+  pub undoing_end : {rows : List (List ℕ)} {heights : List ℕ} {spare : ℕ} {rest : List ℕ} → length rest ≡ 0
+      → Undoing w conflicts rows₀ heights₀ n rows heights spare rest → (c z : List ℕ)
       → Opposed c w conflicts rows₀ heights₀ n z → Group.◌≈◌ (alphabet c) z (reverse (letters w))
-  undoing_end {rows} {heights} {spare} {i} l p c z o =
-      let e : i ≡ 0 = omega arith in
-      left_none c w (subst (λ j. Left c w z rows heights spare j) e (p.left c z o))
+  undoing_end {rows} {heights} {spare} l p c z o =
+      left_none c w (subst (λ j. Left c w z rows heights spare j) l (p.left c z o))

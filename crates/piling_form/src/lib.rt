@@ -1,5 +1,6 @@
 // The normal form of a plan that has passed its checks, or that of its core: the plan is piled up, pairs are taken off
-// where the core is wanted, and what is left is read off. A piling is a local array of rows beside an array of heights.
+// where the core is wanted, and what is left is read off. A piling is a local value: an array of rows beside an array of
+// heights.
 
 #![tactic(auto)]
 
@@ -10,6 +11,8 @@ ghost use Rattle.spec.specs.Letters.{normal_form};
 ghost use Rattle.piling_pairs.specs.Pairing.{PairsOf};
 ghost use Rattle.piling_form.specs.Coring.{form, Whole, Remains};
 
+use piling_stacks::Piling;
+
 // The length of the form, and the number of the pairs that cancelled.
 #[derive(Clone, Copy)]
 pub struct Formed {
@@ -17,29 +20,18 @@ pub struct Formed {
     pub pairs: usize,
 }
 
-// A row for the letters taken off the longest plan.
-fn blank_lead() -> [u8; 512]
-    ensures { 512 ≡ length result }
-{
-    [0; 512]
-}
-
-// Takes pairs off, as `peel` does, where the core is wanted; else nothing changes.
-fn peel_if(
-    rows: &[[u8; 1024]; 24],
-    heights: &mut [u16; 24],
-    at: &mut [u16; 24],
-    conflicts: &[[u16; 24]; 24],
-    cored: bool,
-)
-    requires { (c : List ℕ) × (x : List ℕ) × Whole c conflicts.now rows.now heights.old at.old x }
+// Takes pairs off, as `peel` does, where the core is wanted; else nothing changes. A bool tells it, and no closure: the
+// definition `form` of specs/Coring, by which the promises of both are one, is over it.
+fn peel_if(piling: &mut Piling, at: &mut [u16; 24], conflicts: &[[u16; 24]; 24], cored: bool)
+    requires { (c : List ℕ) × (x : List ℕ)
+        × Whole c conflicts.now piling.old.rows piling.old.heights at.old x }
     ensures { (c x : List ℕ)
-        → Whole c conflicts.now rows.now heights.old at.old x
-        → (z : List ℕ) × Remains c rows.now x heights.new at.new cored z }
+        → Whole c conflicts.now piling.old.rows piling.old.heights at.old x
+        → (z : List ℕ) × Remains c piling.new.rows x piling.new.heights at.new cored z }
 {
     if cored {
-        let mut lead = blank_lead();
-        piling_core::peel(rows, heights, at, conflicts, &mut lead);
+        let mut lead: [u8; 512] = array_row::row(0);
+        piling_core::peel(piling, at, conflicts, &mut lead);
     }
 }
 
@@ -62,12 +54,11 @@ pub fn form(
     if plan.len() == 0 {
         return Formed { form: 0, pairs: 0 };
     }
-    let mut rows = piling_stacks::blank_rows();
-    let mut heights = array_counts::blank_heights();
-    let piled = piling_pairs::pile(plan, conflicts, &mut rows, &mut heights, pairs);
+    let mut piling = Piling::blank();
+    let piled = piling_pairs::pile(plan, conflicts, &mut piling, pairs);
     let mut bottoms = array_counts::blank_heights();
-    peel_if(&rows, &mut heights, &mut bottoms, conflicts, cored);
-    let left = piling_read::read_off(rows, heights, bottoms, conflicts, area);
+    peel_if(&mut piling, &mut bottoms, conflicts, cored);
+    let left = piling_read::read_off(piling, bottoms, conflicts, area);
     Formed {
         form: left,
         pairs: piled.pairs,
@@ -80,7 +71,7 @@ pub fn form_alone(plan: &[u8], conflicts: &[[u16; 24]; 24], area: &mut [u8]) -> 
     ensures { (c : List ℕ) → Passed c conflicts.now plan.now
         → StartsWith (normal_form c plan.now) area.old area.new result }
 {
-    let mut pairs = piling_pairs::blank_places();
+    let mut pairs: [u16; 1024] = array_row::row(0);
     let formed = form(plan, conflicts, area, &mut pairs, false);
     formed.form
 }

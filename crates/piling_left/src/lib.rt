@@ -12,14 +12,12 @@ fn blank(word: &mut [u8], places: &[u16])
     requires { All (λ p. p < length word.old) places.now }
     ensures { word.new ≡ blanked word.old places.now }
 {
-    let mut i = 0;
-    while i < places.len() {
-        word[places[i] as usize] = 0;
-        i += 1;
+    for &place in places {
+        word[place as usize] = 0;
     }
 }
 
-// A zero for each command that a byte can tell.
+// A zero for each command that a byte can tell. Not array_row::row: its contract tells the length alone.
 fn no_letters() -> [u16; 128]
     ensures { Tallied [] result }
 {
@@ -32,11 +30,9 @@ fn tally(word: &[u8]) -> [u16; 128]
     ensures { Tallied word.now result }
 {
     let mut counts = no_letters();
-    let mut i = 0;
-    while i < word.len() {
-        let k = (word[i] % 128) as usize;
+    for &byte in word {
+        let k = (byte % 128) as usize;
         counts[k] += 1;
-        i += 1;
     }
     counts
 }
@@ -48,34 +44,31 @@ fn trim_front(word: &mut [u8], counts: [u16; 128], all: usize)
 {
     let mut left = counts;
     let mut more = all;
-    let mut i = 0;
-    while i < word.len() {
+    for byte in word.iter_mut() {
         if more == 0 {
             return;
         }
-        let k = (word[i] % 128) as usize;
+        let k = (*byte % 128) as usize;
         if left[k] != 0 {
             left[k] -= 1;
             more -= 1;
-            word[i] = 0;
+            *byte = 0;
         }
-        i += 1;
     }
 }
 
-// The same with the last letters.
+// The same with the last letters. Not one function over an iterator of bytes: forward and back the proofs split the word
+// at another end, so it would be no plainer.
 fn trim_back(word: &mut [u8], counts: [u16; 128], all: usize)
     requires { total counts ≡ all }
     ensures { word.new ≡ reverse (trimmed counts (reverse word.old)) }
 {
     let mut left = counts;
     let mut more = all;
-    let mut i = word.len();
-    while 0 < i {
+    for i in (0..word.len()).rev() {
         if more == 0 {
             return;
         }
-        i -= 1;
         let k = (word[i] % 128) as usize;
         if left[k] != 0 {
             left[k] -= 1;
@@ -85,19 +78,17 @@ fn trim_back(word: &mut [u8], counts: [u16; 128], all: usize)
     }
 }
 
-// Moves the letters of a word up to its start, and tells how many they are.
+// Moves the letters of a word up to its start, and tells how many they are. By index, since it writes the word it reads.
 fn close_up(word: &mut [u8]) -> usize
     ensures { Closed word.old word.new result }
 {
     let mut n = 0;
-    let mut i = 0;
-    while i < word.len() {
+    for i in 0..word.len() {
         let a = word[i];
         word[n] = a;
         if a != 0 {
             n += 1;
         }
-        i += 1;
     }
     n
 }

@@ -1,14 +1,13 @@
 -- The places of the letters left, kept as one chain for each command: from the place of its newest letter, each time to
 -- that of the letter that lies next below. What the step asks and tells.
 use Rattle.std.specs.Prelude.{ℕ, ◌+◌, ◌<◌, ◌≡◌, List, [], ◌∷◌, length, get_or}
+use Rattle.std.specs.Prelude as rust
 use Rattle.std.proofs.Math.Option.{Option, none, some}
 use Rattle.theory_words.specs.All.{All}
 use Rattle.spec.specs.Pairs.{Placed, bytes_of, Partner, left_after}
 use Rattle.piling_stacks.specs.Piling.{Piled}
 use Rattle.piling_stacks.specs.Push.{Ready}
 use Rattle.piling_stacks.specs.Newest.{of_command}
-use Rattle.piling_pairs.specs.declared.Step.{Step}
-use Rattle.piling_pairs.specs.declared.Step.TheVariants.{Put, Cancelled}
 
 -- from place n on, by below, stand these places
 abbrev pub Chain : List ℕ → ℕ → List ℕ → Type 0
@@ -30,9 +29,9 @@ pub record Stepping (c : List ℕ) (rows : List (List ℕ)) (heights newest belo
   pub low : place < 1024
 
 -- the place that a step tells, if any, and that of the partner that a letter has, if any
-abbrev pub told_step : Step → Option ℕ
-told_step Put = none
-told_step (Cancelled p) = some p
+abbrev pub told_step : rust.Option ℕ → Option ℕ
+told_step rust.None = none
+told_step (rust.Some p) = some p
 
 abbrev pub place_of : Option Partner → Option ℕ
 place_of none = none

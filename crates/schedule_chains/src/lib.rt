@@ -33,10 +33,8 @@ pub fn leads(word: &[u8], conflicts: &[[u16; 24]; 24], i: usize, j: usize) -> bo
     }
     let mut reached = none();
     add((word[i] % 128) as usize - 1, conflicts, &mut reached);
-    let mut m = i + 1;
-    while m < j {
+    for m in i + 1..j {
         follow(word[m], conflicts, &mut reached);
-        m += 1;
     }
     !independent((word[j] % 128) as usize - 1, conflicts, &reached)
 }

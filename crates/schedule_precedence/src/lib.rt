@@ -32,18 +32,16 @@ fn faulty(places: &[u16], p: usize, letters: usize) -> bool
     first == second
 }
 
-// The number of the first faulty pair, or that of all pairs where none is.
-pub fn first_faulty(places: &[u16], letters: usize) -> usize
+// The number of the first faulty pair, if one is.
+pub fn first_faulty(places: &[u16], letters: usize) -> Option<usize>
     ensures { FirstPair letters places.now result }
 {
-    let mut p = 0;
-    while 2 * p < places.len() {
+    for p in 0..places.len().div_ceil(2) {
         if faulty(places, p, letters) {
-            return p;
+            return Some(p);
         }
-        p += 1;
     }
-    p
+    None
 }
 
 // Whether the first letter of each pair stays before the second. No pair is faulty.
@@ -53,14 +51,12 @@ pub fn all_lead(word: &[u8], conflicts: &[[u16; 24]; 24], places: &[u16]) -> boo
     ensures { (c : List ℕ) → Followable c word.now conflicts.now
         → result ≡ all_lead c word.now places.now }
 {
-    let mut p = 0;
-    while 2 * p < places.len() {
+    for p in 0..places.len() / 2 {
         let first = places[2 * p] as usize;
         let second = places[2 * p + 1] as usize;
         if !leads(word, conflicts, first, second) {
             return false;
         }
-        p += 1;
     }
     true
 }

@@ -148,14 +148,14 @@ module _ {c word : List ℕ} {conflicts : List (List ℕ)} {before : List ℕ} (
     }
 
 -- the next letter is numbered
-pub numbering_again : {c word : List ℕ} {conflicts : List (List ℕ)} {before numbers left left' : List ℕ} {n i : ℕ}
+pub numbering_again : {c word : List ℕ} {conflicts : List (List ℕ)} {before numbers left left' : List ℕ} {n n' i : ℕ}
     → Numberable c word conflicts before → (l : i < length word)
     → (s : Numbering word conflicts before numbers left n i)
     → (let k = command_of (get_or word i 0) - 1 in
-    Changed (at_least (get_or left k 0 + 1)) (get_or conflicts k []) left left'
-    → Numbering word conflicts before (set numbers i (get_or left k 0)) left' (max n (get_or left k 0 + 1)) (i + 1))
-numbering_again {c} {word} {left = left} {left'} {i = i} g l s u =
-    record {
+    Changed (at_least (get_or left k 0 + 1)) (get_or conflicts k []) left left' → n' ≡ max n (get_or left k 0 + 1)
+    → Numbering word conflicts before (set numbers i (get_or left k 0)) left' n' (i + 1))
+numbering_again {c} {word} {left = left} {left'} {i = i} g l s u e =
+    rw e record {
       within = omega arith;
       many = u.kept ∙ s.many;
       low = λ k h.

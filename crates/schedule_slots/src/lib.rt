@@ -6,7 +6,7 @@
 ghost use Rattle.std.specs.Prelude.{ℕ, List};
 ghost use Rattle.schedule_slots.specs.Numbering.{Numberable, SlotsOf};
 
-use array_counts::{larger, raise};
+use array_counts::raise;
 
 // Writes the slot of each letter of word at the start of slots, and tells how many different ones there are.
 pub fn number(word: &[u8], conflicts: &[[u16; 24]; 24], slots: &mut [u16]) -> usize
@@ -16,14 +16,12 @@ pub fn number(word: &[u8], conflicts: &[[u16; 24]; 24], slots: &mut [u16]) -> us
 {
     let mut left = array_counts::blank_heights();
     let mut in_use = 0;
-    let mut i = 0;
-    while i < word.len() {
-        let k = (word[i] % 128) as usize - 1;
+    for (i, letter) in word.iter().enumerate() {
+        let k = (*letter % 128) as usize - 1;
         let slot = left[k];
         slots[i] = slot;
         raise(&mut left, &conflicts[k], slot + 1);
-        in_use = larger(in_use, slot + 1);
-        i += 1;
+        in_use = in_use.max(slot + 1);
     }
     in_use as usize
 }

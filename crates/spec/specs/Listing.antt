@@ -1,12 +1,13 @@
 -- The output of the program loops (docs/MANUAL.md, "Program"): the line `loops 1`, then `joined c`, or `apart`, or
 -- `refused`, number, plan and place, with single spaces, in decimal; each line ends with a newline.
-use Rattle.std.specs.Prelude.{ℕ, ◌+◌, ◌*◌, ◌<◌, List, [], ◌∷◌, ◌++◌}
+use Rattle.std.specs.Prelude.{ℕ, ◌+◌, ◌*◌, ◌<◌, List, [], ◌∷◌, ◌++◌, Result}
+use Rattle.std.specs.Prelude as rust
 use Prim.Native.Char.{code}
 use Prim.Native.String.{String, [] as nothing, ◌∷◌ as ◌then◌}
 use Rattle.std.proofs.Math.Option.{Option, none, some}
-use Rattle.spec.specs.Table.{Line, Answer, refused, given, line_of}
-use Rattle.spec.specs.declared.Verdict.{Verdict}
-use Rattle.spec.specs.declared.Verdict.TheVariants as verdict
+use Rattle.spec.specs.Table.{Line, Answer, refused, given}
+use Rattle.spec.specs.Answers.{told, told_option}
+use Rattle.spec.specs.declared.Refusal.{Refusal}
 
 -- the characters' codes
 abbrev pub bytes : String → List ℕ
@@ -29,7 +30,6 @@ pub data Shows : Answer (Option ℕ) → List ℕ → Type 0 where
 pub data Printed (a : Answer (Option ℕ)) : List ℕ → Type 0 where
   printed : {t : List ℕ} → Shows a t → Printed a (bytes "loops 1\n" ++ t ++ bytes "\n")
 
-abbrev pub told_verdict : Verdict → Answer (Option ℕ)
-told_verdict (verdict.Joined c) = given (some c)
-told_verdict verdict.Apart = given none
-told_verdict (verdict.Refused r) = refused (line_of r)
+-- the verdict of the program: so many letters in the core of two loops that are joined, nothing of two that are apart
+abbrev pub told_verdict : Result (rust.Option ℕ) Refusal → Answer (Option ℕ)
+told_verdict = told told_option

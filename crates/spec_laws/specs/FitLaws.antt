@@ -1,5 +1,6 @@
 -- For callers: as many bytes as a call says that it has written are in the area. So a caller may take `area[..l]`.
-use Rattle.std.specs.Prelude.{ℕ, ◌*◌, ◌≤◌, ◌≡◌, refl, List, ◌++◌, length, drop}
+use Rattle.std.specs.Prelude.{ℕ, ◌*◌, ◌≤◌, ◌≡◌, refl, List, ◌++◌, length, drop, Result, Ok}
+use Rattle.std.specs.Prelude.{Some}
 use Rattle.std.proofs.Common.{sym, ◌∙◌, ap, arith, length-append}
 use Rattle.std.proofs.Math.Option.{Option, none, some}
 use Rattle.spec.specs.Table.{Line, Answer, given, first_line, or_else}
@@ -8,15 +9,12 @@ use Rattle.spec_laws.specs.SearchLaws.{given_not}
 use Rattle.spec_laws.specs.CallLaws.{answer_given}
 use Rattle.spec_laws.specs.LoopLaws.{lead_in_same}
 use Rattle.spec.specs.Letters.{normal_form}
-use Rattle.spec.specs.declared.Written as written
-use Rattle.spec.specs.declared.Written.TheVariants.{Length}
+use Rattle.spec.specs.declared.Refusal.{Refusal}
 use Rattle.spec.specs.declared.NormalForm.{NormalForm}
-use Rattle.spec.specs.declared.NormalForm.TheVariants.{Written}
 use Rattle.spec.specs.declared.Loops.{Loops}
-use Rattle.spec.specs.declared.Loops.TheVariants.{Joined}
 use Rattle.spec.specs.declared.Slots.{Slots}
-use Rattle.spec.specs.declared.Slots.TheVariants.{Numbered}
-use Rattle.spec.specs.Answers.{told_written, told_normal_form, told_slots, told_loops, DecidedLoops, CheckedLeadIn}
+use Rattle.spec.specs.Answers.{told_written, told_normal_form, told_slots, told_loops, told_option, DecidedLoops}
+use Rattle.spec.specs.Answers.{CheckedLeadIn}
 use Rattle.spec.specs.Pairs.{reading, pair_numbers}
 use Rattle.spec_laws.specs.ReadingLaws.{numbers_length}
 use Rattle.spec.specs.Calls.{area_after, normal_form_lines, core_form, core_answer, core_area}
@@ -36,21 +34,20 @@ after_fits : (o : Option Line) (z area after : List ℕ) → o ≡ none → afte
 after_fits o z area after n e =
     at_start z (drop (length z) area) after (e ∙ ap (λ p. area_after p z area) n)
 
-written_fits : (o : Option Line) (z area : List ℕ) {r : written.Written} {after : List ℕ} {l : ℕ}
-    → (told_written r ≡ or_else o (length z)) × (after ≡ area_after o z area) → r ≡ Length l → l ≤ length after
+written_fits : (o : Option Line) (z area : List ℕ) {r : Result ℕ Refusal} {after : List ℕ} {l : ℕ}
+    → (told_written r ≡ or_else o (length z)) × (after ≡ area_after o z area) → r ≡ Ok l → l ≤ length after
 written_fits o z area {after = after} {l = l} (e, b) k =
     let (none-refuses, long) = answer_given o (length z) l (sym e ∙ ap told_written k) in
     omega (arith, long, after_fits o z area after none-refuses b)
 
 -- the normal form in its area, and twice as many numbers as there are pairs in theirs
-module _ (c v area pairs : List ℕ) {after numbers : List ℕ} {r : NormalForm} {l m : ℕ} where
+module _ (c v area pairs : List ℕ) {after numbers : List ℕ} {r : Result NormalForm Refusal} {k : NormalForm} where
   pub normal_form_fits : (told_normal_form r ≡ paired_answer c v area pairs)
       × ((after ≡ paired_area c v area pairs) × (numbers ≡ paired_numbers c v area pairs))
-      → r ≡ Written l m → (l ≤ length after) × (2 * m ≤ length numbers)
-  normal_form_fits (e, (a, b)) k =
+      → r ≡ Ok k → (k.length ≤ length after) × (2 * k.pairs ≤ length numbers)
+  normal_form_fits (e, (a, b)) q =
       let o = first_line (paired_lines c v area pairs) in
-      let (n, same) = answer_given o (paired_counts c v) (record { length = l; pairs = m })
-      (sym e ∙ ap told_normal_form k) in (
+      let (n, same) = answer_given o (paired_counts c v) _ (sym e ∙ ap told_normal_form q) in (
         omega (arith, ap (λ x. x.length) same, after_fits o (normal_form c v) area after n a),
         omega (
           arith,
@@ -61,22 +58,21 @@ module _ (c v area pairs : List ℕ) {after numbers : List ℕ} {r : NormalForm}
       )
 
 -- the normal form in its area, and as many slots in theirs
-module _ (c v area numbers : List ℕ) {after slots_after : List ℕ} {r : Slots} {l n : ℕ} where
+module _ (c v area numbers : List ℕ) {after slots_after : List ℕ} {r : Result Slots Refusal} {k : Slots} where
   pub slots_fits : (told_slots r ≡ slots_answer c v area numbers)
       × ((after ≡ slots_area c v area numbers) × (slots_after ≡ slots_numbers c v area numbers))
-      → r ≡ Numbered l n → (l ≤ length after) × (l ≤ length slots_after)
-  slots_fits (e, (a, b)) k =
+      → r ≡ Ok k → (k.length ≤ length after) × (k.length ≤ length slots_after)
+  slots_fits (e, (a, b)) q =
       let o = first_line (slots_lines c v area numbers) in
       let z = normal_form c v in
-      let (m, same) = answer_given o (slot_counts c v) (record { length = l; in_use = n })
-      (sym e ∙ ap told_slots k) in
-      let q = ap (λ x. x.length) same in (
-        omega (arith, q, after_fits o z area after m a),
-        omega (arith, q, slots_length c z, after_fits o (slots c z) numbers slots_after m b),
+      let (m, same) = answer_given o (slot_counts c v) _ (sym e ∙ ap told_slots q) in
+      let long = ap (λ x. x.length) same in (
+        omega (arith, long, after_fits o z area after m a),
+        omega (arith, long, slots_length c z, after_fits o (slots c z) numbers slots_after m b),
       )
 
-module _ (c v area : List ℕ) {after : List ℕ} {r : written.Written} {l : ℕ} where
-  pub core_fits : (told_written r ≡ core_answer c v area) × (after ≡ core_area c v area) → r ≡ Length l → l ≤ length after
+module _ (c v area : List ℕ) {after : List ℕ} {r : Result ℕ Refusal} {l : ℕ} where
+  pub core_fits : (told_written r ≡ core_answer c v area) × (after ≡ core_area c v area) → r ≡ Ok l → l ≤ length after
   core_fits = written_fits (first_line (normal_form_lines c v area)) (core_form c v) area
 
 looped_fits : {c v w area after : List ℕ} {t : Answer DecidedLoops} {l n : ℕ} → Looped c v w area t after
@@ -90,9 +86,10 @@ looped_fits {area = area} (joined {u} e d h) k =
       at_start u (drop (length u) area) (u ++ drop (length u) area) refl,
     )
 
-pub lead_in_fits : {c v w area after : List ℕ} {r : Loops} {l n : ℕ} → Looped c v w area (told_loops r) after
-    → r ≡ Joined l n → l ≤ length after
-lead_in_fits h e = looped_fits h (ap told_loops e)
+pub lead_in_fits : {c v w area after : List ℕ} {r : Result Loops Refusal} {d : Loops} {l : ℕ}
+    → Looped c v w area (told_loops r) after → r ≡ Ok d → d.lead_in ≡ Some l → l ≤ length after
+lead_in_fits {d = d} h e s =
+    looped_fits h (ap told_loops e ∙ ap (λ o. given (record { lead_in = told_option o; rounds = d.rounds })) s)
 
 module _ (c v w u area0 area1 : List ℕ) {after0 after1 : List ℕ} (k : CheckedLeadIn) where
   pub check_fits : check_answer c v w u area0 area1 ≡ given k → after0 ≡ check_area0 c v w u area0 area1

@@ -6,9 +6,5 @@ use Rattle.array_bits.proofs.gather.Goals as goal
 pub loop-k-preserved-then-n-high : goal.loop-k-preserved-then-n-high
 loop-k-preserved-then-n-high c =
     let k = c.loop-k.k - 1 in
-    let (_, g) = c.loop-k.invariant in
-    let e = shl_exact {a = 1} 1 k 32 (omega arith) (omega arith) in (
-      omega arith,
-      gathering_in g c.loop-k-test.true (omega (arith, e, pow_pos k))
-          (omega arith, omega arith, omega arith),
-    )
+    let e = shl_exact {a = 1} 1 k 32 (omega arith) (omega arith) in
+    gathering_in c.loop-k.invariant c.loop-k-test.true (omega (arith, e, pow_pos k)) (omega arith, omega arith, omega arith)

@@ -1,10 +1,6 @@
 -- What the loop of `array_starts::starts` keeps: the lines below j have been counted.
-use Rattle.std.proofs.Common.{◌-◌}
 use Rattle.array_starts.specs.StartsLaws.{Counting}
 use Rattle.array_starts.proofs.starts.Given as goal
 
 abbrev pub invariant-loop-j : goal.invariant-loop-j
 invariant-loop-j l = Counting l.conflicts l.counts l.free l.j
-
-abbrev pub decreases-loop-j : goal.decreases-loop-j
-decreases-loop-j l = 24 - l.j

@@ -1,10 +1,6 @@
 -- What the loop of `array_words::write` keeps: the numbers of the words below i are written.
-use Rattle.std.proofs.Common.{◌-◌}
 use Rattle.array_words.specs.WordsLaws.{Writing}
 use Rattle.array_words.proofs.write.Given as goal
 
 abbrev pub invariant-loop-i : goal.invariant-loop-i
 invariant-loop-i l = Writing l.words l.initial.numbers l.numbers l.i
-
-abbrev pub decreases-loop-i : goal.decreases-loop-i
-decreases-loop-i l = 6 - l.i

@@ -17,17 +17,23 @@ returns-in_default c =
 pub slice_bounds-form-end : goal.slice_bounds-form-end
 slice_bounds-form-end c =
     let (k, v, w, p) = c.requires in
-    let word = word_joined k v w _ (c.lead_in_word-way.ensures k v w p.cores p.word) c.in-Joined.is in
+    let word = word_joined k v w _ (c.lead_in_word-way.ensures k v w p.cores p.word) c.in-Some.is in
     word_fits p.cores.plans word.0
+
+pub slice_bounds-form-end-2 : goal.slice_bounds-form-end-2
+slice_bounds-form-end-2 c =
+    let (k, v, w, p) = c.requires in
+    let word = word_joined k v w _ (c.lead_in_word-way.ensures k v w p.cores p.word) c.in-Some.is in
+    word.0.count
 
 pub form-length-requires : goal.form-length-requires
 form-length-requires c =
     let (k, v, w, p) = c.requires in
-    let word = word_joined k v w _ (c.lead_in_word-way.ensures k v w p.cores p.word) c.in-Joined.is in
+    let word = word_joined k v w _ (c.lead_in_word-way.ensures k v w p.cores p.word) c.in-Some.is in
     (k, word_formable p.cores.plans word.0 p.form)
 
 pub returns : goal.returns
 returns c =
     λ k v w p.
-    let (d, m) = word_joined k v w _ (c.lead_in_word-way.ensures k v w p.cores p.word) c.in-Joined.is in
+    let (d, m) = word_joined k v w _ (c.lead_in_word-way.ensures k v w p.cores p.word) c.in-Some.is in
     word_outcome p.cores.plans d (c.form-length.ensures k (word_given p.cores.plans d)) m

@@ -25,7 +25,7 @@ append_undone-last-requires c =
     let a = c.append-at.ensures in
     let (k, v, w, p, r) = c.requires in
     let way = c.join_cores-way.ensures k (join_coreable p row r a) in
-    let joined = cores_joined k _ _ _ _ _ way c.in-Joined.is in
+    let joined = cores_joined k _ _ _ _ _ way c.in-Some.is in
     let l = join_short p row r a joined.0 in
     omega (arith, l, c.join_cores-way.auto.row, c.append-at.auto.row)
 
@@ -35,7 +35,7 @@ returns c =
     let a = c.append-at.ensures in
     λ k v w p r.
     let way = c.join_cores-way.ensures k (join_coreable p row r a) in
-    let (d, m) = cores_joined k _ _ _ _ _ way c.in-Joined.is in
+    let (d, m) = cores_joined k _ _ _ _ _ way c.in-Some.is in
     let l = join_short p row r a d in (
       join_word p a (omega (arith, a.ends, lead_room p row r)) d c.append_undone-last.ensures
           (omega (arith, l, c.join_cores-way.auto.row, c.append-at.auto.row)),

@@ -1,9 +1,6 @@
 -- `conjugacy_labels::labels` meets its contract. The loop's invariant: what is left of the rows, from i on, leads to
--- the labels of all. The measure is what is left of 24. Assumes nothing.
-use Prim.Native.Nat.{ℕ, ◌-◌, ◌≤◌}
-use mathlib.Core.Path.{◌≡◌}
-use mathlib.Core.List.{List}
-use lib.ListN.{length}
+-- the labels of all. Assumes nothing.
+use Rattle.std.proofs.Common.{ℕ, ◌≡◌, List, length}
 use Rattle.input_chains.specs.Conflicts.{Conflicts}
 use Rattle.spec.specs.Letters.{alphabet}
 use Rattle.theory_conjugacy.specs.Part.{merge_all}
@@ -13,9 +10,5 @@ use Rattle.conjugacy_labels.proofs.labels.Given as goal
 
 abbrev pub invariant-loop-i : goal.invariant-loop-i
 invariant-loop-i l =
-    (l.i ≤ 24)
-    × ((c : List ℕ) → length l.flags ≡ 24 → Conflicts c l.conflicts
-    → Folding (λ is. merge_all (alphabet c) is (flagged 1 l.flags)) l.flags (λ k. k) l.labels l.i)
-
-abbrev pub decreases-loop-i : goal.decreases-loop-i
-decreases-loop-i l = 24 - l.i
+    (c : List ℕ) → length l.flags ≡ 24 → Conflicts c l.conflicts
+    → Folding (λ is. merge_all (alphabet c) is (flagged 1 l.flags)) l.flags (λ k. k) l.labels l.i

@@ -1,6 +1,6 @@
 -- `conjugacy_labels::merge_row` meets its contract. The loop's invariant: what is left of the row, from j on, leads to
--- the labels of the whole row. The measure is what is left of 24. Assumes nothing.
-use Prim.Native.Nat.{◌<◌, ◌≤◌}
+-- the labels of the whole row. Assumes nothing.
+use Prim.Native.Nat.{◌≤◌}
 use native.Mathlib.Omega.{arith}
 use Rattle.conjugacy_labels.specs.MergeLaws.{row_folds}
 use Rattle.conjugacy_labels.specs.MergeLaws.{fold_again, fold_end, row_none, row_some}
@@ -13,15 +13,12 @@ returns-then-flags-i-ne1 c =
 
 pub loop-j-preserved : goal.loop-j-preserved
 loop-j-preserved c =
-    let u : c.loop-j.j < 24 = omega arith in (
-      omega arith,
-      λ c' lab m t h. fold_again (row_folds c' _) _ m _ u (λ l. c.merge.ensures c' l t)
-          (c.loop-j.invariant.1 c' lab m t h),
-    )
+    λ c' lab m t h. fold_again (row_folds c' _) _ m _ (omega arith) (λ l. c.merge.ensures c' l t)
+    (c.loop-j.invariant c' lab m t h)
 
 pub returns : goal.returns
 returns c =
     let a = c.args in
     let u : 24 ≤ c.loop-j.j = omega arith in
     λ c' lab m t h. row_some c' lab a.flags.now a.i c.if-flags-i-ne1.false
-    (fold_end (row_folds c' _) _ m _ u (c.loop-j.invariant.1 c' lab m t h))
+    (fold_end (row_folds c' _) _ m _ u (c.loop-j.invariant c' lab m t h))

@@ -1,9 +1,7 @@
 -- Cores that are the same are joined, and those in which other commands occur are apart; their parts are counted with
 -- the flags and labels of each. For others the flags and labels are those of both. Assumes nothing.
-use Prim.Native.Nat.{◌<◌}
 use mathlib.Core.Path.{sym, ◌∙◌}
 use mathlib.Core.Bool.{true≢false}
-use native.Mathlib.Omega.{arith}
 use Rattle.spec.specs.Letters.{alphabet}
 use Rattle.theory_conjugacy.specs.WordLaws.{~_of_≡}
 use Rattle.conjugacy_settled_parts.specs.PartOfLaws.{cyclic_lettered}
@@ -21,8 +19,8 @@ occurring-others-requires c = cyclic_lettered c.requires.1.second
 
 -- the cores are the same
 
-pub most_rounds-most-requires : goal.most_rounds-most-requires
-most_rounds-most-requires c =
+pub most_rounds-once-requires : goal.most_rounds-once-requires
+most_rounds-once-requires c =
     let (k, h) = c.requires in
     let f = c.occurring-flags.ensures k in
     (k, core_first h f (c.labels-names.ensures k _ h.first.table f))
@@ -33,7 +31,7 @@ returns-then-same_bytes c =
     let e = ~_of_≡ (alphabet k) (c.same_bytes.ensures.0 c.if-same_bytes.true) in
     let f = c.occurring-flags.ensures k in
     let o = core_first h f (c.labels-names.ensures k _ h.first.table f) in
-    let n = c.most_rounds-most.ensures k o in
+    let n = c.most_rounds-once.ensures k o in
     (cores_same h.first e n.kept, same_counted o n e)
 
 -- other commands occur
@@ -44,11 +42,11 @@ most_rounds-one-requires c =
     let f = c.occurring-flags.ensures k in
     (k, core_first h f (c.labels-names.ensures k _ h.first.table f))
 
-pub most_rounds-most-requires-then-not-same_commands : goal.most_rounds-most-requires-then-not-same_commands
-most_rounds-most-requires-then-not-same_commands c =
+pub most_rounds-both-requires : goal.most_rounds-both-requires
+most_rounds-both-requires c =
     let (k, h) = c.requires in
     let g = c.occurring-others.ensures k in
-    (k, core_second h g (c.labels-two.ensures k _ h.second.table g) c.most_rounds-one.auto.row)
+    (k, core_second h g (c.labels.ensures k _ h.second.table g) c.most_rounds-one.auto.row)
 
 pub returns-then-not-same_commands : goal.returns-then-not-same_commands
 returns-then-not-same_commands c =
@@ -56,10 +54,10 @@ returns-then-not-same_commands c =
     let f = c.occurring-flags.ensures k in
     let g = c.occurring-others.ensures k in
     let o = core_first h f (c.labels-names.ensures k _ h.first.table f) in
-    let p = core_second h g (c.labels-two.ensures k _ h.second.table g) c.most_rounds-one.auto.row in
+    let p = core_second h g (c.labels.ensures k _ h.second.table g) c.most_rounds-one.auto.row in
     let (same, equal) = c.same_commands.ensures _ _ f g in (
       cores_apart h (λ e. true≢false (sym (equal e) ∙ c.if-not-same_commands.true)),
-      cores_counted o (c.most_rounds-one.ensures k o) p (c.most_rounds-most-then-not-same_commands.ensures k p),
+      cores_counted o (c.most_rounds-one.ensures k o) p (c.most_rounds-both.ensures k p),
     )
 
 -- the same commands occur
@@ -71,8 +69,8 @@ join_groups-requires c =
     let (same, equal) = c.same_commands.ensures _ _ f (c.occurring-others.ensures k) in
     (k, cores_joinable h (same c.if-not-same_commands.false) f (c.labels-names.ensures k _ h.first.table f))
 
-pub returns-then-k-ge24 : goal.returns-then-k-ge24
-returns-then-k-ge24 c =
+pub returns-in_default : goal.returns-in_default
+returns-in_default c =
     λ k h.
     let f = c.occurring-flags.ensures k in
     let (same, equal) = c.same_commands.ensures _ _ f (c.occurring-others.ensures k) in
@@ -85,14 +83,13 @@ join_part-requires c =
     let f = c.occurring-flags.ensures k in
     let (same, equal) = c.same_commands.ensures _ _ f (c.occurring-others.ensures k) in
     let b = cores_joinable h (same c.if-not-same_commands.false) f (c.labels-names.ensures k _ h.first.table f) in
-    let lone : c.lone_apex-k.result < 24 = omega arith in
-    (k, _, _, lone_partable b lone c.lone_apex-k.ensures)
+    let (lone, o) = c.in-Some.ensures in
+    (k, _, _, lone_partable b lone o)
 
 pub returns : goal.returns
 returns c =
     let j = c.join_part in
-    let o = c.lone_apex-k.ensures in
-    let lone : c.lone_apex-k.result < 24 = omega arith in
+    let (lone, o) = c.in-Some.ensures in
     λ k h.
     let f = c.occurring-flags.ensures k in
     let (same, equal) = c.same_commands.ensures _ _ f (c.occurring-others.ensures k) in

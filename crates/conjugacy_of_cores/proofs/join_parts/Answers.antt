@@ -1,13 +1,14 @@
 -- The loop's invariant: the row is as long as it was, and under every catalogue the apexes passed are joined, their
--- lead-ins stand in the row, and their rounds are counted. The measure is the number of commands left. Assumes nothing.
-use Prim.Native.Nat.{ℕ, max}
-use mathlib.Core.Path.{◌≡◌, refl, ◌∙◌, ap}
-use native.Mathlib.Omega.{arith}
-use Rattle.conjugacy_of_cores.specs.Pair.{rounds_of}
+-- lead-ins stand in the row, and their rounds are counted. Assumes nothing.
+use Rattle.std.specs.Prelude.{ℕ, ◌≡◌, max}
+use Rattle.std.specs.Ordering.{ord_max, nat_cmp}
+use Rattle.std.proofs.Common.{refl, ◌∙◌, arith, rules}
 use Rattle.conjugacy_of_cores.specs.CountLaws.{joinable_as_long}
 use Rattle.conjugacy_of_cores.specs.SofarLaws.{sofar_start, sofar_placeable, sofar_again, sofar_stop, sofar_end}
-use Rattle.conjugacy_of_cores.specs.SofarLaws.{parts_told}
 use Rattle.conjugacy_of_cores.proofs.join_parts.Goals as goal
+
+larger : (m n : ℕ) → ord_max nat_cmp m n ≡ max m n
+larger m n = search rules
 
 pub loop-k-init : goal.loop-k-init
 loop-k-init c = (refl, λ k x y g h. sofar_start h)
@@ -28,17 +29,12 @@ returns-in_default c =
     let i = c.loop-k.invariant in
     let w = c.join_at-way in
     let b = c.rest_rounds-rest in
-    let others = c.larger-others in
-    let n : ℕ = c.in_default.field-0 in
-    let own : c.rounds_of.result ≡ n = c.rounds_of.ensures ∙ ap rounds_of c.in_default.is in
-    let q : c.larger.result ≡ max others.result n = c.larger.ensures ∙ ap (max others.result) own in
     λ k x y g h.
     let told = w.ensures k x y g (sofar_placeable h (i.1 k x y g h) i.0 (omega arith)) in
-    let (d, t) = sofar_stop h (i.1 k x y g h) w.new.row b.new.row
-    (omega arith) (parts_told k _ _ _ _ _ _ told c.in_default.is)
+    sofar_stop h (i.1 k x y g h) w.new.row b.new.row (omega arith) told c.in_default.is
+    (c.max-most.ensures ∙ larger _ _)
     (b.ensures k x y g (joinable_as_long h (w.auto.row ∙ i.0)))
-    others.ensures in
-    (d, q ∙ t)
+    c.max.ensures
 
 pub loop-k-preserved : goal.loop-k-preserved
 loop-k-preserved c =
@@ -47,8 +43,8 @@ loop-k-preserved c =
       w.auto.row ∙ i.0,
       λ k x y g h.
           let told = w.ensures k x y g (sofar_placeable h (i.1 k x y g h) i.0 (omega arith)) in
-          sofar_again h (i.1 k x y g h) (omega arith) (parts_told k _ _ _ _ _ _ told c.in-Joined.is)
-          c.larger-most.ensures,
+          sofar_again h (i.1 k x y g h) (omega arith) told c.in-Some.is
+          (c.max-most.ensures ∙ larger _ _),
     )
 
 pub returns : goal.returns

@@ -8,14 +8,14 @@ use Rattle.conjugacy_of_parts.proofs.join_part.Goals as goal
 pub ring_of-one-requires : goal.ring_of-one-requires
 ring_of-one-requires c =
     let (k, x, y, h) = c.requires in
-    ((k, x, part_first h), part_fits (part_first h) c.sheet-ring.ensures)
+    ((k, x, part_first h), part_fits (part_first h) c.row-ring.ensures)
 
 pub ring_of-two-requires : goal.ring_of-two-requires
 ring_of-two-requires c =
     let (k, x, y, h) = c.requires in
     let one = c.ring_of-one.ensures k x (part_first h) in
     let asked = part_second h one c.ring_of-one.auto.cycled in
-    ((k, y, asked), part_fits asked c.sheet-other.ensures)
+    ((k, y, asked), part_fits asked c.row-other.ensures)
 
 pub slice_bounds-other-end : goal.slice_bounds-other-end
 slice_bounds-other-end c =
@@ -29,8 +29,8 @@ slice_bounds-join_rings-end-2 c =
     let one = c.ring_of-one.ensures k x (part_first h) in
     rung_count (c.ring_of-two.ensures k y (part_second h one c.ring_of-one.auto.cycled))
 
-pub join_rings-requires : goal.join_rings-requires
-join_rings-requires c =
+pub join_rings-end-requires : goal.join_rings-end-requires
+join_rings-end-requires c =
     let (k, x, y, h) = c.requires in
     let m = c.ring_of-one.auto.cycled in
     let one = c.ring_of-one.ensures k x (part_first h) in
@@ -44,5 +44,5 @@ returns c =
     λ k x y h.
     let one = c.ring_of-one.ensures k x (part_first h) in
     let two = c.ring_of-two.ensures k y (part_second h one m) in
-    part_outcome h one m two n c.join_rings.new.row c.larger.ensures c.join_rings.result
-    (c.join_rings.ensures k _ (way_cycled h one m two n))
+    part_outcome h one m two n c.join_rings-end.new.row c.max.ensures c.join_rings-end.result
+    (c.join_rings-end.ensures k _ (way_cycled h one m two n))

@@ -17,31 +17,26 @@ overflow_mul-need-3 c =
     let (k, v, w, p, r) = c.requires in
     record { fits = omega (arith, cores_room p r) }
 
-pub lead_in_form-requires : goal.lead_in_form-requires
-lead_in_form-requires c = row_asked (omega (arith, c.short_row-row.ensures)) c.requires
+pub join_in-requires : goal.join_in-requires
+join_in-requires c = (omega arith, row_asked (omega arith) c.requires)
 
 pub returns-then-need-le2048 : goal.returns-then-need-le2048
-returns-then-need-le2048 c = row_told (omega (arith, c.short_row-row.ensures)) c.lead_in_form.ensures
+returns-then-need-le2048 c = row_told (omega arith) c.join_in.ensures
 
-pub lead_in_form-requires-then-need-le8192 : goal.lead_in_form-requires-then-need-le8192
-lead_in_form-requires-then-need-le8192 c = row_asked (omega (arith, c.middle_row-row.ensures)) c.requires
+pub join_in-requires-then-need-le8192 : goal.join_in-requires-then-need-le8192
+join_in-requires-then-need-le8192 c = (omega arith, row_asked (omega arith) c.requires)
 
 pub returns-then-need-le8192 : goal.returns-then-need-le8192
-returns-then-need-le8192 c =
-    row_told (omega (arith, c.middle_row-row.ensures)) c.lead_in_form-then-need-le8192.ensures
+returns-then-need-le8192 c = row_told (omega arith) c.join_in-then-need-le8192.ensures
 
-pub lead_in_form-requires-then-need-le24576 : goal.lead_in_form-requires-then-need-le24576
-lead_in_form-requires-then-need-le24576 c = row_asked (omega (arith, c.wide_row-row.ensures)) c.requires
+pub join_in-requires-then-need-le24576 : goal.join_in-requires-then-need-le24576
+join_in-requires-then-need-le24576 c = (omega arith, row_asked (omega arith) c.requires)
 
 pub returns-then-need-le24576 : goal.returns-then-need-le24576
-returns-then-need-le24576 c =
-    row_told (omega (arith, c.wide_row-row.ensures)) c.lead_in_form-then-need-le24576.ensures
+returns-then-need-le24576 c = row_told (omega arith) c.join_in-then-need-le24576.ensures
 
-pub lead_in_form-requires-2 : goal.lead_in_form-requires-2
-lead_in_form-requires-2 c =
-    row_asked (omega (arith, cores_room c.requires.3 c.requires.4, c.blank_row-row.ensures)) c.requires
+pub join_in-requires-2 : goal.join_in-requires-2
+join_in-requires-2 c = (omega arith, row_asked (omega (arith, cores_room c.requires.3 c.requires.4)) c.requires)
 
 pub returns : goal.returns
-returns c =
-    row_told (omega (arith, cores_room c.requires.3 c.requires.4, c.blank_row-row.ensures))
-    c.lead_in_form-2.ensures
+returns c = row_told (omega (arith, cores_room c.requires.3 c.requires.4)) c.join_in-2.ensures

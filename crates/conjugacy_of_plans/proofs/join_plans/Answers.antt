@@ -9,8 +9,8 @@ core_of-one-requires c =
       c.requires.0,
       p,
       record {
-        wide = omega (arith, p.short, c.sheet-core1.ensures);
-        deep = omega (arith, p.short, c.sheet-lead1.ensures);
+        wide = omega (arith, p.short, c.row-core1.ensures);
+        deep = omega (arith, p.short, c.row-lead1.ensures);
       },
     )
 
@@ -20,8 +20,8 @@ core_of-two-requires c =
       c.requires.0,
       p,
       record {
-        wide = omega (arith, p.short, c.sheet-core2.ensures);
-        deep = omega (arith, p.short, c.sheet-lead2.ensures);
+        wide = omega (arith, p.short, c.row-core2.ensures);
+        deep = omega (arith, p.short, c.row-lead2.ensures);
       },
     )
 

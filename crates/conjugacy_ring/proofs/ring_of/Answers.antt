@@ -7,7 +7,7 @@ use Rattle.conjugacy_ring.proofs.ring_of.Goals as goal
 pub settle_part-ends-requires : goal.settle_part-ends-requires
 settle_part-ends-requires c =
     let ((k, x, h), l) = c.requires in
-    ((k, x, h), part_fits h c.sheet-word.ensures)
+    ((k, x, h), part_fits h c.row-word.ensures)
 
 pub slice_bounds-word-end : goal.slice_bounds-word-end
 slice_bounds-word-end c =

@@ -1,5 +1,5 @@
 -- `conjugacy_rounds::group_rounds` meets its contract. The loop's invariant: the larger of what is found and what the
--- parts that are left need is what is asked. The measure is what is left of the 24 commands. Assumes nothing.
+-- parts that are left need is what is asked. Assumes nothing.
 use borrow.Author.Rules.{rules}
 use Rattle.conjugacy_rounds.specs.CountingLaws.{counting_again}
 use Rattle.conjugacy_rounds.specs.CountingLaws.{counting_end}
@@ -8,7 +8,7 @@ use Rattle.conjugacy_rounds.proofs.group_rounds.Goals as goal
 pub loop-j-preserved : goal.loop-j-preserved
 loop-j-preserved c =
     counting_again c.loop-j.invariant c.loop-j-test.true (search rules) c.rounds_at-count.ensures
-    c.larger-found.ensures
+    c.max-found.ensures
 
 pub returns : goal.returns
 returns c = counting_end c.loop-j.invariant c.loop-j-test.false

@@ -6,7 +6,7 @@ use Rattle.conjugacy_rounds.proofs.part_rounds.Goals as goal
 pub settle_part-ends-requires : goal.settle_part-ends-requires
 settle_part-ends-requires c =
     let (k, x, h) = c.requires in
-    ((k, x, h), part_fits h c.sheet-word.ensures)
+    ((k, x, h), part_fits h c.row-word.ensures)
 
 -- the number handed back is what settling took,
 -- and not one more

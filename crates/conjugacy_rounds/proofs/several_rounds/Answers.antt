@@ -1,4 +1,5 @@
--- `conjugacy_rounds::several_rounds` meets its contract: the core can be grouped in a sheet. Assumes nothing.
+-- `conjugacy_rounds::several_rounds` meets its contract: the core can be grouped in a row of 1,024
+-- bytes. Assumes nothing.
 use native.Mathlib.Omega.{arith}
 use Rattle.conjugacy_rounds.specs.CountingLaws.{core_groupable}
 use Rattle.conjugacy_rounds.proofs.several_rounds.Goals as goal
@@ -6,16 +7,16 @@ use Rattle.conjugacy_rounds.proofs.several_rounds.Goals as goal
 pub group-starts-requires : goal.group-starts-requires
 group-starts-requires c =
     let (k, h) = c.requires in
-    (k, core_groupable h c.sheet-word.ensures)
+    (k, core_groupable h c.row-word.ensures)
 
 pub group_rounds-requires : goal.group_rounds-requires
 group_rounds-requires c =
     let (k, h) = c.requires in
-    let g = c.group-starts.ensures k (core_groupable h c.sheet-word.ensures) in
+    let g = c.group-starts.ensures k (core_groupable h c.row-word.ensures) in
     (omega arith, (k, _, record { core = h; grouped = g }))
 
 pub returns : goal.returns
 returns c =
     λ k h.
-    let g = c.group-starts.ensures k (core_groupable h c.sheet-word.ensures) in
+    let g = c.group-starts.ensures k (core_groupable h c.row-word.ensures) in
     c.group_rounds.ensures k _ (record { core = h; grouped = g })

@@ -7,7 +7,7 @@ use Rattle.conjugacy_settled_parts.proofs.settle_part.Goals as goal
 pub append-n-requires : goal.append-n-requires
 append-n-requires c =
     let ((k, x, h), l) = c.requires in
-    omega (arith, part_fits h c.sheet-letters.ensures)
+    omega (arith, part_fits h c.row-letters.ensures)
 
 pub settle-settled-requires : goal.settle-settled-requires
 settle-settled-requires c =

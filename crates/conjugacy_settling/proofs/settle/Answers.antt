@@ -5,9 +5,7 @@ use native.Mathlib.Omega.{arith}
 use Rattle.std.proofs.Common.{◌<◌}
 use lib.ListN.{drop}
 use borrow.Author.Rules.{rules}
-use Rattle.conjugacy_settling.specs.SettlingLaws.{rounds_start}
-use Rattle.conjugacy_settling.specs.SettlingLaws.{rounds_count, rounds_many, rounds_fits, rounds_room}
-use Rattle.conjugacy_settling.specs.SettlingLaws.{rounds_done, rounds_again}
+use Rattle.conjugacy_settling.specs.SettlingLaws.{rounds_start, rounds_count, rounds_lows, rounds_done, rounds_again}
 use Rattle.conjugacy_settling.proofs.settle.Goals as goal
 
 pub loop-lower-init : goal.loop-lower-init
@@ -19,35 +17,29 @@ returns-then-lower-eq0 c = rounds_done c.loop-lower.invariant c.split-ends.ensur
 -- in each answer below: the letters of the word that are not split again stand from place `lower` on
 pub slice_bounds-append-end : goal.slice_bounds-append-end
 slice_bounds-append-end c =
-    rounds_fits c.loop-lower.invariant c.split-ends.ensures c.requires.1 (drop c.loop-lower.lower c.loop-lower.word)
+    let l = c.loop-lower in
+    let p = rounds_lows l.invariant c.split-ends.ensures c.requires.1 (drop l.lower l.word) in
+    p.fits
 
 pub slice_bounds-append-end-in-loop-lower : goal.slice_bounds-append-end-in-loop-lower
 slice_bounds-append-end-in-loop-lower c =
-    rounds_many c.loop-lower.invariant c.split-ends.ensures c.requires.1 (drop c.loop-lower.lower c.loop-lower.word)
+    let l = c.loop-lower in
+    let p = rounds_lows l.invariant c.split-ends.ensures c.requires.1 (drop l.lower l.word) in
+    p.many
 
 pub append-end-requires : goal.append-end-requires
 append-end-requires c =
     let l = c.loop-lower in
-    let s = c.split-ends in
-    let some : 0 < s.result.low = omega arith in
-    omega (
-      arith,
-      rounds_many l.invariant s.ensures c.requires.1 (drop l.lower l.word),
-      rounds_room l.invariant s.ensures c.requires.1 some,
-    )
+    let some : 0 < c.split-ends.result.low = omega arith in
+    let p = rounds_lows l.invariant c.split-ends.ensures c.requires.1 (drop l.lower l.word) in
+    omega (arith, p.many, p.room some)
 
 pub loop-lower-smaller : goal.loop-lower-smaller
 loop-lower-smaller c =
     let l = c.loop-lower in
-    let s = c.split-ends in
-    let some : 0 < s.result.low = omega arith in
-    omega (
-      arith,
-      rounds_many l.invariant s.ensures c.requires.1 (drop l.lower l.word),
-      rounds_room l.invariant s.ensures c.requires.1 some,
-      l.invariant.same_out,
-      c.append-end.ensures.ends,
-    )
+    let some : 0 < c.split-ends.result.low = omega arith in
+    let p = rounds_lows l.invariant c.split-ends.ensures c.requires.1 (drop l.lower l.word) in
+    omega (arith, p.many, p.room some, l.invariant.same_out, c.append-end.ensures.ends)
 
 pub loop-lower-preserved : goal.loop-lower-preserved
 loop-lower-preserved c =

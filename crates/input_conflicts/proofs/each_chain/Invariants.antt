@@ -1,6 +1,5 @@
 -- `each_chain` decides line 5. The loop's invariant: every chain before command a ends, the rows hold its marks, and
 -- the first command with each head is known.
-use Prim.Native.Nat.{◌+◌, ◌-◌}
 use mathlib.Core.Path.{◌≡◌}
 use lib.ListN.{length}
 use Rattle.spec_laws.specs.SearchLaws.{Searching}
@@ -10,9 +9,9 @@ use Rattle.input_conflicts.specs.ChainLaws.{endless}
 use Rattle.input_conflicts.proofs.each_chain.Given as goal
 
 abbrev pub invariant-loop-a : goal.invariant-loop-a
-invariant-loop-a l =
-    Searching (endless l.c) (commands l.c) 1 l.a × Chained l.c l.a l.rows × Known l.c l.a l.own l.firsts
-    × (length l.firsts ≡ length l.initial.firsts)
-
-abbrev pub decreases-loop-a : goal.decreases-loop-a
-decreases-loop-a l = commands l.c + 1 - l.a
+invariant-loop-a l = record {
+  ending : Searching (endless l.c.bytes.now) (commands l.c.bytes.now) 1 l.a;
+  chained : Chained l.c.bytes.now l.a l.rows;
+  known : Known l.c.bytes.now l.a l.own l.firsts;
+  long : length l.firsts ≡ length l.initial.firsts;
+}

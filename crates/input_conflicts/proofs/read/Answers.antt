@@ -1,40 +1,25 @@
 -- `read` goes through the checks in the table's order; where all pass, the marks with the diagonal are the conflicts.
-use mathlib.Core.Path.{sym, subst}
-use Rattle.spec.specs.Catalogue.{or_if, endless_line, own_line}
-use Rattle.input_catalogue.specs.Sound.{sound_line}
-use Rattle.input_catalogue.specs.SoundLaws.{passed_none, then_passed}
+use Rattle.std.proofs.Common.{ℕ, List, Ok, Err, sym, subst}
+use Rattle.std.proofs.lemmas.Result.{err_from_is_err_and}
 use Rattle.input_chains.specs.Conflicts.{Conflicts}
-use Rattle.input_conflicts.specs.ReadingLaws.{sound_none, answers_passed, answers_refused}
+use Rattle.input_conflicts.specs.Reading.{Reading}
+use Rattle.input_conflicts.specs.ReadingLaws.{sound_passed, all_refused, all_passed}
 use Rattle.input_conflicts.specs.ChainLaws.{met_conflicts}
 use Rattle.input_conflicts.proofs.read.Goals as goal
 
-pub chains-chained-requires : goal.chains-chained-requires
-chains-chained-requires c =
-    let cat = c.args.catalogue.now in
-    let r = c.check-sound in
-    let sound = sound_none cat (passed_none cat (sound_line cat) r.result r.ensures c.in-Passed.is) in
-    record { fact_1 = (c.layout_of-layout.ensures, sound); fact_2 = c.requires }
+pub chains-requires-clause-sound : goal.chains-requires-clause-sound
+chains-requires-clause-sound c = sound_passed c.of-c.result.bytes.now c.in_ok-check.ensures
 
-pub returns-in_default-owned : goal.returns-in_default-owned
-returns-in_default-owned c =
-    let cat = c.args.catalogue.now in
-    let r = c.own_chain-owned in
-    let sound = passed_none cat (sound_line cat) c.check-sound.result c.check-sound.ensures c.in-Passed.is in
-    let chained = passed_none cat (endless_line cat) c.chains-chained.result c.chains-chained.ensures.decides
-    c.in-Passed-chained.is in
-    let d = then_passed cat (endless_line cat) (own_line cat) r.result chained r.ensures in
-    let last = or_if (endless_line cat) (own_line cat) in
-    answers_refused cat r.result (then_passed cat (sound_line cat) last r.result sound d) c.in_default-owned.is
+pub returns-in_err-commands : goal.returns-in_err-commands
+returns-in_err-commands c =
+    let p = err_from_is_err_and c.from_residual-in_err-commands.result c.from_residual-in_err-commands.ensures.1 in
+    rw (p.1, p.2)
+    (subst (λ (x : List ℕ). Reading x c.chains.new.rows (Err c.in_err-commands.field-0.0)) c.of-c.ensures
+    (all_refused c.of-c.result.bytes.now c.in_ok-check.ensures c.in_ok-chains.ensures.decides c.in_err-commands.ensures))
 
 pub returns : goal.returns
 returns c =
-    let cat = c.args.catalogue.now in
-    let r = c.own_chain-owned in
-    let sound = passed_none cat (sound_line cat) c.check-sound.result c.check-sound.ensures c.in-Passed.is in
-    let chained = passed_none cat (endless_line cat) c.chains-chained.result c.chains-chained.ensures.decides
-    c.in-Passed-chained.is in
-    let d = then_passed cat (endless_line cat) (own_line cat) r.result chained r.ensures in
-    let last = or_if (endless_line cat) (own_line cat) in
-    let met = c.chains-chained.ensures.met chained in
-    answers_passed cat r.result (then_passed cat (sound_line cat) last r.result sound d) c.in-Passed-owned.is
-    (subst (Conflicts cat) (sym c.diagonal.ensures) (met_conflicts cat met))
+    let cat = c.of-c.result.bytes.now in
+    subst (λ (x : List ℕ). Reading x c.diagonal.new.rows (Ok c.in_ok-commands.commands)) c.of-c.ensures
+    (all_passed cat c.in_ok-check.ensures c.in_ok-chains.ensures.decides c.in_ok-commands.ensures
+    (λ z. subst (Conflicts cat) (sym c.diagonal.ensures) (met_conflicts cat (c.in_ok-chains.ensures.met z))))

@@ -1,11 +1,6 @@
--- `input_plan::all_pass` meets its contract: the faults of the bytes below j are gathered.
-use Prim.Native.Nat.{◌-◌, ◌≤◌}
-use lib.ListN.{length}
+-- `input_plan::all_pass` meets its contract. The loop's invariant: what fails of the bytes before b is gathered.
 use Rattle.input_plan.specs.FaultLaws.{Gathered}
 use Rattle.input_plan.proofs.all_pass.Given as goal
 
-abbrev pub invariant-loop-j : goal.invariant-loop-j
-invariant-loop-j l = (l.j ≤ length l.plan) × Gathered l.commands l.plan l.faults l.j
-
-abbrev pub decreases-loop-j : goal.decreases-loop-j
-decreases-loop-j l = length l.plan - l.j
+abbrev pub invariant-loop-b : goal.invariant-loop-b
+invariant-loop-b l = Gathered l.commands l.plan l.failed l.b-index

@@ -2,5 +2,5 @@
 use Rattle.long_form.specs.FormingLaws.{empty_formed}
 use Rattle.long_form.proofs.form.Goals as goal
 
-pub returns-then-word-eq0 : goal.returns-then-word-eq0
-returns-then-word-eq0 c k g = empty_formed k _ c.if-word-eq0.true
+pub returns-in-0 : goal.returns-in-0
+returns-in-0 c k g = empty_formed k _ c.in-0.is

@@ -3,11 +3,11 @@ use Rattle.long_product.specs.ProductLaws.{product_given, product_formable, prod
 use Rattle.long_product.proofs.product_in.Goals as goal
 
 pub form-requires : goal.form-requires
-form-requires c =
-    let (k, f, s) = c.requires in
+form-requires g c =
+    let (k, f) = c.requires.factors in
     (k, product_formable c.concatenate-end.ensures f)
 
 pub returns : goal.returns
-returns c =
+returns g c =
     let j = c.concatenate-end.ensures in
     λ k f. product_written k j (c.form.ensures k (product_given j f))

@@ -5,8 +5,7 @@ use Rattle.long_read.specs.ReadLaws.{Underway}
 use Rattle.long_read.proofs.read_off.Given as goal
 
 abbrev pub invariant-loop-k : goal.invariant-loop-k
-invariant-loop-k l =
-    Underway l.conflicts l.word l.under l.link l.initial.tops l.initial.marks l.initial.heights l.initial.area l.tops l.marks l.heights l.area l.l l.k
+invariant-loop-k g l = Underway l.conflicts l.word l.initial.stacks l.initial.area l.stacks l.area l.l l.start
 
 abbrev pub decreases-loop-k : goal.decreases-loop-k
-decreases-loop-k l = length l.initial.area - l.l
+decreases-loop-k g l = length l.initial.area - l.l

@@ -3,7 +3,6 @@ use Rattle.std.proofs.Common.{◌∙◌}
 use Rattle.loops.specs.ProgramLaws.{well_laid, well_answer}
 use Rattle.loops.proofs.answer.Goals as goal
 
-pub returns-in-Well : goal.returns-in-Well
-returns-in-Well c =
-    let s = c.args.input.now in
-    c.decide.ensures ∙ well_answer s _ (well_laid s c.framed.ensures c.in-Well.is)
+pub returns-in-Some : goal.returns-in-Some
+returns-in-Some c =
+    c.decide.ensures ∙ well_answer c.args.input.now c.in-Some.places (well_laid c.in-Some.ensures)

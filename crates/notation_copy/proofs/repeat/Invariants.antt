@@ -1,11 +1,6 @@
--- `notation_copy::repeat` meets its contract. The loop's invariant: the bytes up to place i are those of the repeated
--- word. The measure is what is left to write.
-use Rattle.std.proofs.Common.{◌-◌}
+-- `notation_copy::repeat` meets its contract. The loop's invariant: the first n copies stand.
 use Rattle.notation_copy.specs.RepeatLaws.{Repeating}
 use Rattle.notation_copy.proofs.repeat.Given as goal
 
-abbrev pub invariant-loop-i : goal.invariant-loop-i
-invariant-loop-i l = Repeating l.initial.area l.from l.to l.count l.area l.i
-
-abbrev pub decreases-loop-i : goal.decreases-loop-i
-decreases-loop-i l = l.end - l.i
+abbrev pub invariant-loop-n : goal.invariant-loop-n
+invariant-loop-n l = Repeating l.initial.area l.from l.to l.count l.area l.n

@@ -5,5 +5,5 @@ use Rattle.notation_measure.proofs.command.Goals as goal
 pub returns-then-known : goal.returns-then-known
 returns-then-known c = command_known _ _ _ _ c.requires _ c.number_at-n.ensures c.if-known.ensures
 
-pub returns : goal.returns
-returns c = command_above _ _ _ _ c.requires _ c.number_at-n.ensures c.if-known.ensures
+pub returns-else-known : goal.returns-else-known
+returns-else-known c = command_above _ _ _ _ c.requires _ c.number_at-n.ensures c.if-known.ensures

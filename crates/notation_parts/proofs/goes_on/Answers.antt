@@ -3,5 +3,5 @@ use Rattle.std.proofs.Common.{arith}
 use Rattle.notation_parts.specs.PlaceLaws.{goes_at}
 use Rattle.notation_parts.proofs.goes_on.Goals as goal
 
-pub returns : goal.returns
-returns c = goes_at c.args.text.now c.args.at (omega arith)
+pub returns-then-at-text : goal.returns-then-at-text
+returns-then-at-text c = goes_at c.args.text.now c.args.at (omega arith)

@@ -3,5 +3,5 @@ use Rattle.std.proofs.Common.{arith}
 use Rattle.notation_parts.specs.PlaceLaws.{stands_at}
 use Rattle.notation_parts.proofs.stands.Goals as goal
 
-pub returns : goal.returns
-returns c = stands_at c.args.text.now c.args.at (omega arith) c.args.b c.requires
+pub returns-then-at-text : goal.returns-then-at-text
+returns-then-at-text c = stands_at c.args.text.now c.args.at (omega arith) c.args.b c.requires

@@ -7,11 +7,11 @@ pub items-measure-requires : goal.items-measure-requires
 items-measure-requires c = (all c.requires, omega arith)
 
 pub overflow_sub-text : goal.overflow_sub-text
-overflow_sub-text c = above_left c.requires (c.items-measure.ensures (all c.requires)) c.in-Left.is
+overflow_sub-text c = above_left c.requires (c.items-measure.ensures (all c.requires)) c.in-Some.is
 
-pub returns-in-Left : goal.returns-in-Left
-returns-in-Left c =
-    c.refused.ensures ∙ above_refused c.requires (c.items-measure.ensures (all c.requires)) c.in-Left.is
+pub returns-in-Some : goal.returns-in-Some
+returns-in-Some c =
+    c.refused.ensures ∙ above_refused c.requires (c.items-measure.ensures (all c.requires)) c.in-Some.is
 
 pub returns-then-measure-gt1024 : goal.returns-then-measure-gt1024
 returns-then-measure-gt1024 c =

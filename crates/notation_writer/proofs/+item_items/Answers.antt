@@ -144,8 +144,8 @@ item-items-once-requires t c =
     let w = bracket_within s c.args.at f o m in
     (omega (arith, c.decreases, g.deep), (group_room m k (omega arith), omega (arith, w)))
 
-pub item-repeat-end-requires-clause-fact_1 : goal.item-repeat-end-requires-clause-fact_1
-item-repeat-end-requires-clause-fact_1 t c =
+pub item-repeat-end-requires-clause-in_order : goal.item-repeat-end-requires-clause-in_order
+item-repeat-end-requires-clause-in_order t c =
     let s = c.args.text.now in
     let f = c.past_minus-from.ensures in
     let o = c.if-not-stands.ensures in
@@ -155,8 +155,8 @@ item-repeat-end-requires-clause-fact_1 t c =
     let n : 1 ≤ c.number_at-count.result.value = omega arith in
     (group_repeats m k n (c.items-once.ensures (group_room m k n))).0
 
-pub item-repeat-end-requires-clause-fact_3 : goal.item-repeat-end-requires-clause-fact_3
-item-repeat-end-requires-clause-fact_3 t c =
+pub item-repeat-end-requires-clause-room : goal.item-repeat-end-requires-clause-room
+item-repeat-end-requires-clause-room t c =
     let s = c.args.text.now in
     let f = c.past_minus-from.ensures in
     let o = c.if-not-stands.ensures in

@@ -4,9 +4,9 @@ use lib.ListN.{length}
 use Rattle.piling_core.specs.PeelLaws.{Taken}
 use Rattle.piling_core.proofs.peel.Given as goal
 
-abbrev pub invariant-loop-k : goal.invariant-loop-k
-invariant-loop-k l =
-    Taken l.conflicts l.rows l.initial.heights l.initial.at l.initial.lead l.heights l.at l.lead l.l l.k
+abbrev pub invariant-loop-first : goal.invariant-loop-first
+invariant-loop-first l =
+    Taken l.conflicts l.initial.piling.rows l.initial.piling.heights l.initial.at l.initial.lead l.piling.rows l.piling.heights l.at l.lead l.l l.first
 
-abbrev pub decreases-loop-k : goal.decreases-loop-k
-decreases-loop-k l = length l.lead - l.l
+abbrev pub decreases-loop-first : goal.decreases-loop-first
+decreases-loop-first l = length l.lead - l.l

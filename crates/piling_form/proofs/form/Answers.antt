@@ -15,19 +15,19 @@ returns-then-plan-eq0 c = record {
 pub pile-piled-requires : goal.pile-piled-requires
 pile-piled-requires c =
     let (k, p, a, l) = c.requires in
-    (k, passed_given p c.blank_rows-rows.ensures c.blank_heights-heights.ensures, l)
+    (k, passed_given p c.blank-piling.ensures.rows c.blank-piling.ensures.heights, l)
 
 pub peel_if-requires : goal.peel_if-requires
 peel_if-requires c =
     let (k, p, a, l) = c.requires in
-    let g = passed_given p c.blank_rows-rows.ensures c.blank_heights-heights.ensures in
+    let g = passed_given p c.blank-piling.ensures.rows c.blank-piling.ensures.heights in
     let q = passed_whole p (c.pile-piled.ensures.piled k g).piled c.blank_heights-bottoms.ensures in
     (k, reverse (reduced k c.args.plan.now), q)
 
 pub read_off-left-requires : goal.read_off-left-requires
 read_off-left-requires c =
     let (k, p, a, l) = c.requires in
-    let g = passed_given p c.blank_rows-rows.ensures c.blank_heights-heights.ensures in
+    let g = passed_given p c.blank-piling.ensures.rows c.blank-piling.ensures.heights in
     let w = passed_whole p (c.pile-piled.ensures.piled k g).piled c.blank_heights-bottoms.ensures in
     let (z, q) = c.peel_if.ensures k (reverse (reduced k c.args.plan.now)) w in
     (k, z, remains_readable p c.args.area.now q a)
@@ -35,11 +35,11 @@ read_off-left-requires c =
 pub returns : goal.returns
 returns c = record {
   formed = λ k p.
-      let g = passed_given p c.blank_rows-rows.ensures c.blank_heights-heights.ensures in
+      let g = passed_given p c.blank-piling.ensures.rows c.blank-piling.ensures.heights in
       let w = passed_whole p (c.pile-piled.ensures.piled k g).piled c.blank_heights-bottoms.ensures in
       let (z, q) = c.peel_if.ensures k (reverse (reduced k c.args.plan.now)) w in
       remains_form c.args.plan.now q
       (c.read_off-left.ensures k z (remains_readable p c.args.area.now q c.requires.2));
   paired = λ k p.
-      c.pile-piled.ensures.paired k (passed_given p c.blank_rows-rows.ensures c.blank_heights-heights.ensures);
+      c.pile-piled.ensures.paired k (passed_given p c.blank-piling.ensures.rows c.blank-piling.ensures.heights);
 }

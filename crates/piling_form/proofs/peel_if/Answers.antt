@@ -7,11 +7,11 @@ use Rattle.piling_form.proofs.peel_if.Goals as goal
 pub peel-requires : goal.peel-requires
 peel-requires c =
     let (k, x, p) = c.requires in
-    (k, x, p c.blank_lead-lead.result c.blank_lead-lead.ensures)
+    (k, x, p c.row-lead.result c.row-lead.ensures)
 
 pub returns-then-cored : goal.returns-then-cored
 returns-then-cored c = λ k x p.
-    let q = c.peel.ensures k x (p c.blank_lead-lead.result c.blank_lead-lead.ensures) in
+    let q = c.peel.ensures.peeled k x (p c.row-lead.result c.row-lead.ensures) in
     (q.0, rw c.if-cored.true (peeled q.1))
 
 pub returns-else-cored : goal.returns-else-cored

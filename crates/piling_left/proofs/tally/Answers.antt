@@ -5,8 +5,8 @@ use Rattle.piling_left.proofs.tally.Goals as goal
 
 pub overflow_add-counts : goal.overflow_add-counts
 overflow_add-counts c =
-    record { fits = tallied_low c.args.word.now c.loop-i.i c.loop-i.invariant.1 (omega arith) c.requires }
+    record { fits = tallied_low c.args.word.now c.loop-byte.byte-index c.loop-byte.invariant.1 (omega arith) c.requires }
 
-pub loop-i-preserved : goal.loop-i-preserved
-loop-i-preserved c =
-    (omega arith, tallied_again c.args.word.now c.loop-i.i c.loop-i.invariant.1 (omega arith))
+pub loop-byte-preserved : goal.loop-byte-preserved
+loop-byte-preserved c =
+    (omega arith, tallied_again c.args.word.now c.loop-byte.byte-index c.loop-byte.invariant.1 (omega arith))

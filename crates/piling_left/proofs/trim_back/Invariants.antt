@@ -6,6 +6,3 @@ use Rattle.piling_left.proofs.trim_back.Given as goal
 
 abbrev pub invariant-loop-i : goal.invariant-loop-i
 invariant-loop-i l = Backs (trimmed l.initial.left (reverse l.initial.word)) l.initial.word l.word l.left l.more l.i
-
-abbrev pub decreases-loop-i : goal.decreases-loop-i
-decreases-loop-i l = l.i

@@ -1,11 +1,8 @@
 -- `piling_pairs::pile` meets its contract. The command of a byte that is no filler is one of the 24, and a step that
 -- tells a place leaves room for one pair more; twice the pairs are no more than the letters read.
 use native.Mathlib.Omega.{arith}
-use mathlib.Core.Path.{◌∙◌, sym, ap}
-use mathlib.Core.List.{[]}
-use lib.ListN.{length, take}
+use lib.ListN.{take}
 use Rattle.spec.specs.Pairs.{left_of}
-use Rattle.piling_stacks.specs.BlankLaws.{piled_blank}
 use Rattle.piling_pairs.specs.PairingLaws.{piling_start, given_range, piling_stepping, piling_filler}
 use Rattle.piling_pairs.specs.PairingLaws.{piling_letters, piling_room, piling_letter, piling_counted}
 use Rattle.piling_pairs.proofs.pile.Goals as goal
@@ -13,8 +10,7 @@ use Rattle.piling_pairs.proofs.pile.Goals.{then-letter-ne0, else-letter-ne0}
 
 pub loop-i-init : goal.loop-i-init
 loop-i-init c =
-    piling_start (ap length c.blank_heights-newest.ensures ∙ (piled_blank []).shape.many)
-    (sym c.blank_places-below.ensures)
+    piling_start c.blank-places.ensures.newest c.blank-places.ensures.below
 
 pub overflow_sub-k : goal.overflow_sub-k
 overflow_sub-k c = omega (arith, given_range c.requires.1 c.loop-i.i (omega arith) c.if-letter-ne0.true)
@@ -43,10 +39,10 @@ loop-i-preserved c =
     let h = c.loop-i.invariant in
     elim c.if-letter-ne0.branch [
       | then-letter-ne0 w ↦
-          rw (w.rows-is, w.heights-is, w.pairs-is, w.newest-is, w.below-is, w.read-is, w.n-is)
+          rw (w.piling-is, w.pairs-is, w.places-is, w.read-is, w.n-is)
           (piling_letter h (omega arith) w.if-letter-ne0.true c.requires.2 w.push-step.ensures w.paired-n.ensures)
       | else-letter-ne0 w ↦
-          rw (w.rows-is, w.heights-is, w.pairs-is, w.newest-is, w.below-is, w.read-is, w.n-is)
+          rw (w.piling-is, w.pairs-is, w.places-is, w.read-is, w.n-is)
           (piling_filler h (omega arith) w.if-letter-ne0.false)
     ]
 

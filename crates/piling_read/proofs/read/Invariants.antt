@@ -4,9 +4,9 @@ use lib.ListN.{length}
 use Rattle.piling_read.specs.ReadLaws.{Written}
 use Rattle.piling_read.proofs.read.Given as goal
 
-abbrev pub invariant-loop-k : goal.invariant-loop-k
-invariant-loop-k l =
-    Written l.conflicts l.rows l.heights l.initial.at l.initial.area l.at l.area l.l l.k
+abbrev pub invariant-loop-first : goal.invariant-loop-first
+invariant-loop-first l =
+    Written l.conflicts l.piling.rows l.piling.heights l.initial.at l.initial.area l.at l.area l.l l.first
 
-abbrev pub decreases-loop-k : goal.decreases-loop-k
-decreases-loop-k l = length l.area - l.l
+abbrev pub decreases-loop-first : goal.decreases-loop-first
+decreases-loop-first l = length l.area - l.l

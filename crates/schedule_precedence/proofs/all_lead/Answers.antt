@@ -4,10 +4,6 @@ use Rattle.spec_laws.specs.PlacesLaws.{places_pass}
 use Rattle.schedule_precedence.specs.SearchingLaws.{leading_again, leading_not, leading_end}
 use Rattle.schedule_precedence.proofs.all_lead.Goals as goal
 
-pub bounds-places-p-in-loop-p : goal.bounds-places-p-in-loop-p
-bounds-places-p-in-loop-p c =
-    (places_pass (length c.args.word.now) c.args.places.now c.requires.1 c.loop-p.p (omega arith)).0
-
 pub leads-requires : goal.leads-requires
 leads-requires c =
     let (w, f, g, n) =
@@ -23,4 +19,4 @@ loop-p-preserved c =
     leading_again c.loop-p.invariant (omega arith) c.leads.ensures (ap not c.if-not-leads.false)
 
 pub returns : goal.returns
-returns c = leading_end c.loop-p.invariant (omega arith)
+returns c = leading_end c.loop-p.invariant _ c.requires.1 (omega arith)

@@ -1,6 +1,5 @@
--- `core` is safe and ends: the measure is `turns - turn`.
-use Prim.Native.Nat.{◌-◌}
+-- `core` ends, since each word is shorter than the one before.
 use Rattle.cases_solver.proofs.conjugacy.core.Given as goal
 
-abbrev pub decreases-loop-turn : goal.decreases-loop-turn
-decreases-loop-turn l = l.turns - l.turn
+abbrev pub decreases-loop-y : goal.decreases-loop-y
+decreases-loop-y l = l.x.length

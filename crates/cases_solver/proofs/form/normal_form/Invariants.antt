@@ -1,6 +1,6 @@
--- `normal_form` is safe and ends: the measure is `62 - k`.
-use Prim.Native.Nat.{◌-◌}
+-- `normal_form` gives at most 62 letters.
+use Rattle.std.proofs.Common.{◌≤◌}
 use Rattle.cases_solver.proofs.form.normal_form.Given as goal
 
-abbrev pub decreases-loop-k : goal.decreases-loop-k
-decreases-loop-k l = 62 - l.k
+abbrev pub invariant-loop-k : goal.invariant-loop-k
+invariant-loop-k l = l.form.length ≤ 62

@@ -1,11 +1,6 @@
--- `slots` is safe and ends: the measure is `n - i`, the invariant `count ≤ i`.
-use mathlib.Core.Path.{◌≡◌}
-use Prim.Native.Nat.{◌-◌, ◌≤◌}
-use lib.ListN.{length}
+-- `slots` counts no more slots than it has letters.
+use Rattle.std.proofs.Common.{◌≤◌}
 use Rattle.cases_solver.proofs.slotting.slots.Given as goal
 
 abbrev pub invariant-loop-i : goal.invariant-loop-i
-invariant-loop-i l = (l.count ≤ l.i) × (length l.numbers ≡ length l.initial.numbers)
-
-abbrev pub decreases-loop-i : goal.decreases-loop-i
-decreases-loop-i l = l.n - l.i
+invariant-loop-i l = l.count ≤ l.i

@@ -1,10 +1,6 @@
--- `number` is safe and ends: the measure is `length text - i`, the invariant `value < 10000`.
-use Prim.Native.Nat.{◌-◌, ◌<◌}
-use lib.ListN.{length}
+-- `number` is modulo 10,000.
+use Rattle.std.proofs.Common.{◌<◌}
 use Rattle.cases_table.proofs.line.number.Given as goal
 
-abbrev pub invariant-loop-i : goal.invariant-loop-i
-invariant-loop-i l = l.value < 10000
-
-abbrev pub decreases-loop-i : goal.decreases-loop-i
-decreases-loop-i l = length l.text - l.i
+abbrev pub invariant-loop-b : goal.invariant-loop-b
+invariant-loop-b l = l.value < 10000

@@ -1,0 +1,56 @@
+// What the solver answers.
+
+use cases_report::{Answer, KEPT_NUMBER, Pairs, Slots, widened};
+use cases_solver::{
+    Refusal, at, check_catalogue, check_form, check_loops, check_normal_form, check_slots,
+    check_three, core, in_order, joined, leads, most_rounds, normal_form, tied,
+};
+use cases_table::{Call, Question};
+
+fn pairs(c: &[u8], plan: &[u8]) -> Answer {
+    let mut numbers = [KEPT_NUMBER; 1100];
+    let count = cases_solver::pairs(c, plan, &mut numbers);
+    Answer::Pairs(Pairs::of(&numbers, count))
+}
+
+fn slots(c: &[u8], plan: &[u8]) -> Answer {
+    let mut numbers = [KEPT_NUMBER; 1100];
+    let in_use = cases_solver::slots(c, plan, &mut numbers);
+    Answer::Slots(Slots::of(normal_form(c, plan), &numbers, in_use))
+}
+
+// Whether the letters of the normal form stay in the order of these places.
+fn precedence(c: &[u8], plan: &[u8], places: &[u8]) -> Result<Answer, Refusal> {
+    let list = widened(places);
+    in_order(c, plan, &list[..places.len().min(1100)]).map(Answer::InOrder)
+}
+
+fn loops(c: &[u8], v: &[u8], w: &[u8]) -> Answer {
+    let rounds = most_rounds(c, v, w);
+    if joined(c, v, w) {
+        Answer::Joined(rounds)
+    } else {
+        Answer::Apart(rounds)
+    }
+}
+
+// The answer to a question under this catalogue, in an area of so many bytes and a second one of so many numbers.
+pub fn solved(q: &Question, c: &[u8], room: usize, numbers: usize) -> Result<Answer, Refusal> {
+    let v = q.v.bytes();
+    let w = q.w.bytes();
+    let u = q.u.bytes();
+    match q.call {
+        Call::Conflict => check_catalogue(c).map(|_| Answer::Conflict(tied(c, at(v, 0), at(v, 1)))),
+        Call::NormalForm => {
+            check_normal_form(c, v, room, numbers).map(|_| Answer::Form(normal_form(c, v)))
+        }
+        Call::Pairs => check_normal_form(c, v, room, numbers).map(|_| pairs(c, v)),
+        Call::Slots => check_slots(c, v, room, numbers).map(|_| slots(c, v)),
+        Call::Precedence => precedence(c, v, w),
+        Call::Core => check_form(c, v, room).map(|_| Answer::Form(core(c, v))),
+        Call::Equal => Ok(Answer::Equal(normal_form(c, v) == normal_form(c, w))),
+        Call::Loops => check_loops(c, v, w, room).map(|_| loops(c, v, w)),
+        Call::Fault => check_three(c, v, w, u).map(|_| Answer::NoFault),
+        Call::LeadIn => Ok(Answer::LeadIn(leads(c, v, w, u))),
+    }
+}

@@ -1,6 +1,0 @@
--- `leads` is safe and ends: the measure is `n - i`.
-use Prim.Native.Nat.{◌-◌}
-use Rattle.cases_solver.proofs.conjugacy.leads.Given as goal
-
-abbrev pub decreases-loop-i : goal.decreases-loop-i
-decreases-loop-i l = l.n - l.i

@@ -1,6 +1,0 @@
--- `shortened` is safe and ends: the measure is `end - n`.
-use Prim.Native.Nat.{◌-◌}
-use Rattle.cases_solver.proofs.conjugacy.shortened.Given as goal
-
-abbrev pub decreases-loop-n : goal.decreases-loop-n
-decreases-loop-n l = l.end - l.n
