@@ -3,7 +3,7 @@
 
 #![tactic(auto)]
 
-ghost use Rattle.std.specs.Prelude.{◌+◌, ◌-◌, ◌≤◌, ◌<◌, ◌≡◌};
+ghost use Rattle.std.specs.Prelude.{◌+◌, ◌-◌, ◌≤◌, ◌<◌, max, ◌≡◌};
 ghost use Rattle.array_counts.specs.Blank.{blank_heights, Ones};
 ghost use Rattle.array_counts.specs.Heights.{Both, Changed, ChangedBy, without, at_least};
 
@@ -56,10 +56,17 @@ pub fn clear(free: &mut [u16; 24], line: &[u16; 24])
     change(free, line, |f, n| f & (1 - n));
 }
 
+// The larger of two numbers.
+pub fn larger(a: u16, b: u16) -> u16
+    ensures { result ≡ max a b }
+{
+    a.max(b)
+}
+
 // Each number is at least so much where the line has a one.
 pub fn raise(numbers: &mut [u16; 24], line: &[u16; 24], least: u16)
     requires { Both (λ h n. n ≤ 1) numbers.old line.now }
     ensures { Changed (at_least least) line.now numbers.old numbers.new }
 {
-    change(numbers, line, |h, n| h.max(n * least));
+    change(numbers, line, |h, n| larger(h, n * least));
 }

@@ -6,7 +6,7 @@
 ghost use Rattle.std.specs.Prelude.{ℕ, List};
 ghost use Rattle.schedule_slots.specs.Numbering.{Numberable, SlotsOf};
 
-use array_counts::raise;
+use array_counts::{larger, raise};
 
 // Writes the slot of each letter of word at the start of slots, and tells how many different ones there are.
 pub fn number(word: &[u8], conflicts: &[[u16; 24]; 24], slots: &mut [u16]) -> usize
@@ -21,7 +21,7 @@ pub fn number(word: &[u8], conflicts: &[[u16; 24]; 24], slots: &mut [u16]) -> us
         let slot = left[k];
         slots[i] = slot;
         raise(&mut left, &conflicts[k], slot + 1);
-        in_use = in_use.max(slot + 1);
+        in_use = larger(in_use, slot + 1);
     }
     in_use as usize
 }
