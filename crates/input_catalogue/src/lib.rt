@@ -51,9 +51,10 @@ pub fn first_wrong<F: Fn(usize) -> bool>(n: usize, wrong: F) -> Option<usize>
         → MatchOption result (first_of p n 1 ≡ none) (λ i. first_of p n 1 ≡ some i) }
     ensures in_range { IfSome result (λ i. (1 ≤ i) × (i ≤ n)) }
 {
-    for i in 1..n + 1 {
-        if wrong(i) {
-            return Some(i);
+    // From 0: so the compiled loop has one number that counts, and not two.
+    for i in 0..n {
+        if wrong(i + 1) {
+            return Some(i + 1);
         }
     }
     None

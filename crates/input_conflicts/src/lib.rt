@@ -58,8 +58,10 @@ fn each_chain(
     ensures decides { Decides c.now.bytes.now (endless_line c.now.bytes.now) result }
     ensures met { endless_line c.now.bytes.now ≡ none → Met c.now.bytes.now rows.new }
 {
+    // A copy: behind the loan the compiler would read the layout anew after each mark.
+    let c = *c;
     for a in 1..c.layout.commands + 1 {
-        if !chain_of(c, a, rows, own, firsts) {
+        if !chain_of(&c, a, rows, own, firsts) {
             let place = c.head_place(a);
             return refused(Reason::EndlessChain, 0, place);
         }
