@@ -1,6 +1,6 @@
 -- Laws of words appended in a row: one byte more, what the row then begins with, and the letters of that.
 use Rattle.std.specs.Prelude.{ℕ, suc, ◌+◌, ◌-◌, ◌<◌, ◌≤◌, ◌≡◌, List, [], ◌∷◌, ◌++◌, length, get_or, take, drop, set}
-use Rattle.std.proofs.Common.{arith, add-one, sym, ◌∙◌, ap, subst, append_assoc, append-nil, length-append, length-drop, take-append-drop, length-take-le, drop-cons, take_at}
+use Rattle.std.proofs.Common.{arith, add-one, sym, ◌∙◌, ap, subst, append_assoc, append-nil, length-append, length-drop, take-append-drop, length-take-le, drop-cons, take_at, take-suc, take_all}
 use Rattle.std.proofs.lemmas.List.{set_at}
 use Rattle.std.proofs.Math.Nat.{sub-zero, sub_self}
 use Rattle.std.proofs.Math.Seq.{drop-length, append_snoc}
@@ -52,6 +52,39 @@ module _ {before after word : List ℕ} {at end : ℕ} (a : Appended before at w
 appended_at : {before after word : List ℕ} {at end last : ℕ} → end ≡ last → Appended before at word after end
     → Appended before at word after last
 appended_at {before} {after} {word} {at} e a = subst (Appended before at word after) e a
+
+-- the loop that appends: the first i bytes of the word are appended
+
+pub record Copied (before : List ℕ) (at : ℕ) (word row : List ℕ) (i : ℕ) : Type 0 where
+  pub within : i ≤ length word
+  pub appended : Appended before at (take i word) row (at + i)
+
+pub copied_start : (row : List ℕ) (at : ℕ) (word : List ℕ) → Copied row at word row 0
+copied_start row at word = record {
+  within = omega arith;
+  appended = appended_at (omega arith) (appended_start row at);
+}
+
+module _ {before word row : List ℕ} {at i : ℕ} (room : at + length word ≤ length before)
+    (c : Copied before at word row i) where
+  pub copied_length : length row ≡ length before
+  copied_length = appended_length c.appended (omega (arith, c.within))
+
+  pub copied_room : i < length word → at + i < length row
+  copied_room h = omega (arith, copied_length)
+
+  pub copied_again : i < length word → Copied before at word (set row (at + i) (get_or word i 0)) (i + 1)
+  copied_again h =
+      let e : take (i + 1) word ≡ take i word ++ get_or word i 0 ∷ [] = rw (add-one i, take-suc word i 0 h) in
+      record {
+        within = omega arith;
+        appended = rw e (appended_at (omega arith) (appended_again c.appended (get_or word i 0) (omega arith)));
+      }
+
+  pub copied_whole : length word ≤ i → Appended before at word row (at + length word)
+  copied_whole h =
+      let e : i ≡ length word = omega (arith, c.within) in
+      appended_at (omega (arith, e)) (rw (take_all i word h) at c.appended)
 
 -- the loop that undoes: the last n bytes of the word are appended, backwards and undone
 
