@@ -1,18 +1,25 @@
--- A word repeated in a row, copy by copy: each is written behind those that stand.
+-- A word repeated in a row: copies of it are written behind those that stand, at most as many as stand.
 use Rattle.std.specs.Prelude.{ℕ, zero, suc, ◌+◌, ◌-◌, ◌*◌, ◌<◌, ◌≤◌, ◌≡◌, List, ◌++◌, length, take, drop}
-use Rattle.std.proofs.Common.{arith, suc-mul, one-mul, mul-le-mul_right, sym, ◌∙◌, ap, subst, append_assoc, append-nil, length-append, length-drop, take-append-drop, length-take-le, take-take, take_at}
+use Rattle.std.proofs.Common.{arith, one-mul, mul-le-mul_right, sym, ◌∙◌, ap, subst, append_assoc, append-nil, length-append, length-drop, take-append-drop, length-take-le, take-take, take_at}
+use Rattle.std.proofs.Math.Nat.{add-mul}
 use Rattle.std.proofs.lemmas.List.{drop_at}
 use Rattle.std.proofs.lemmas.Slice.{drop-append-drop}
 use Rattle.std.proofs.Math.Seq.{paste}
+use Rattle.std.specs.List.{copy_within}
 use Rattle.spec.specs.Notation.{repeated}
+use Rattle.notation_laws.specs.SizeLaws.{repeated-length}
 use Rattle.array_row.specs.Row.{Appended}
-use Rattle.array_row.specs.RowLaws.{appended_take}
+use Rattle.array_row.specs.RowLaws.{appended_length, appended_take}
 
--- one copy may as well stand at the end
-repeated_last : (n : ℕ) (x : List ℕ) → repeated (suc n) x ≡ repeated n x ++ x
+-- so many copies, and more behind them
+repeated_more : (n m : ℕ) (x : List ℕ) → repeated (n + m) x ≡ repeated n x ++ repeated m x
 unfolding repeated
-repeated_last zero x = append-nil x
-repeated_last (suc n) x = ap (λ z. x ++ z) (repeated_last n x) ∙ sym (append_assoc x (repeated n x) x)
+repeated_more zero m x = let e : 0 + m ≡ m = omega arith in ap (λ z. repeated z x) e
+repeated_more (suc n) m x =
+    let e : suc n + m ≡ suc (n + m) = omega arith in
+    ap (λ z. repeated z x) e
+    ∙ ap (λ z. x ++ z) (repeated_more n m x)
+    ∙ sym (append_assoc x (repeated n x) (repeated m x))
 
 repeated_once : (x : List ℕ) → repeated 1 x ≡ x
 unfolding repeated
@@ -38,13 +45,14 @@ module _ (row : List ℕ) (from to : ℕ) (h : from ≤ to) (l : to ≤ length r
         );
   }
 
--- the first copy
-first_copy : (x rest : List ℕ) (n : ℕ) → 1 ≤ n → take (length x) (repeated n x ++ rest) ≡ x
-unfolding repeated
-first_copy x rest zero h = absurd (omega arith)
-first_copy x rest (suc n) h =
-    ap (λ z. take (length x) z) (append_assoc x (repeated n x) rest)
-    ∙ take_at x (repeated n x ++ rest) (length x) (λ i. length x)
+-- the first copies
+first_copies : (x rest : List ℕ) (n m : ℕ) → m ≤ n → take (m * length x) (repeated n x ++ rest) ≡ repeated m x
+first_copies x rest n m l =
+    let e : m + (n - m) ≡ n = omega arith in
+    ap (λ z. take (m * length x) (repeated z x ++ rest)) (sym e)
+    ∙ ap (λ z. take (m * length x) (z ++ rest)) (repeated_more m (n - m) x)
+    ∙ ap (λ z. take (m * length x) z) (append_assoc (repeated m x) (repeated (n - m) x) rest)
+    ∙ take_at (repeated m x) (repeated (n - m) x ++ rest) (m * length x) (repeated-length m x)
 
 module _ {before after word : List ℕ} {at end : ℕ} (a : Appended before at word after end) where
   -- a part pasted behind a word is appended to it
@@ -73,9 +81,9 @@ pub record Repeating (before : List ℕ) (from to count : ℕ) (row : List ℕ) 
 
 module _ (before : List ℕ) (from to count : ℕ) (h : from ≤ to) (once : 1 ≤ count)
     (room : from + count * (to - from) ≤ length before) where
-  -- the row with one copy more
-  abbrev pub pasted : List ℕ → ℕ → List ℕ
-  pasted row n = paste row (from + n * (to - from)) (drop from row) (to - from)
+  -- the row with m copies more
+  abbrev pub pasted : List ℕ → ℕ → ℕ → List ℕ
+  pasted row n m = copy_within row from (from + m * (to - from)) (from + n * (to - from))
 
   -- so many copies, at most all, have room
   copies_fit : (n : ℕ) → n ≤ count → from + n * (to - from) ≤ length before
@@ -98,35 +106,51 @@ module _ (before : List ℕ) (from to count : ℕ) (h : from ≤ to) (once : 1 �
       }
 
   module _ {row : List ℕ} {n : ℕ} (c : Repeating before from to count row n) where
-    -- the bytes to copy stand where they stood
-    copied : take (to - from) (drop from row) ≡ between before from to
-    copied =
+    -- the copies to copy stand where they stood
+    copied : (m : ℕ) → m ≤ n → take (m * (to - from)) (drop from row) ≡ repeated m (between before from to)
+    copied m l =
         let x : List ℕ = between before from to in
         let w : List ℕ = repeated n x in
         let rest : List ℕ = drop (from + n * (to - from)) before in
         let p : length (take from before) ≡ from = length-take-le from before (omega (arith, repeating_to)) in
-        let m : length x ≡ to - from = between-length before from to h repeating_to in
-        ap (λ z. take (to - from) (drop from z)) (c.appended.bytes ∙ append_assoc (take from before) w rest)
-        ∙ ap (λ z. take (to - from) z) (drop_at (take from before) (w ++ rest) from p)
-        ∙ ap (λ z. take z (w ++ rest)) (sym m)
-        ∙ first_copy x rest n c.low
+        let k : length x ≡ to - from = between-length before from to h repeating_to in
+        ap (λ z. take (m * (to - from)) (drop from z)) (c.appended.bytes ∙ append_assoc (take from before) w rest)
+        ∙ ap (λ z. take (m * (to - from)) z) (drop_at (take from before) (w ++ rest) from p)
+        ∙ ap (λ z. take (m * z) (w ++ rest)) (sym k)
+        ∙ first_copies x rest n m l
 
-    pub repeating_again : n < count → Repeating before from to count (pasted row n) (n + 1)
-    repeating_again l =
-        let x : List ℕ = between before from to in
-        let m : length x ≡ to - from = between-length before from to h repeating_to in
-        let next : n + 1 ≡ suc n = omega arith in
-        let e : from + n * (to - from) + (to - from) ≡ from + suc n * (to - from)
-        = omega (arith, suc-mul n (to - from)) in
-        let fits : from + n * (to - from) + (to - from) ≤ length before
-        = omega (arith, e, copies_fit (suc n) (omega arith)) in
-        let a : Appended before from (repeated n x ++ x) (pasted row n) (from + n * (to - from) + (to - from))
-        = appended_paste c.appended (drop from row) x (to - from) copied m fits in
-        record {
-          low = omega (arith, c.low);
-          high = omega arith;
-          appended =
-              subst (λ z. Appended before from (repeated z x) (pasted row n) (from + z * (to - from))) (sym next)
-              (subst (λ z. Appended before from z (pasted row n) (from + suc n * (to - from))) (sym (repeated_last n x))
-              (subst (λ z. Appended before from (repeated n x ++ x) (pasted row n) z) e a));
-        }
+    pub repeating_length : length row ≡ length before
+    repeating_length = appended_length c.appended (copies_fit n c.high)
+
+    -- the place behind m copies more
+    behind : (m : ℕ) → from + n * (to - from) + m * (to - from) ≡ from + (n + m) * (to - from)
+    behind m = omega (arith, add-mul n m (to - from))
+
+    module _ (m : ℕ) (l : m ≤ n) (fits : n + m ≤ count) where
+      pub repeating_source : from + m * (to - from) ≤ length row
+      repeating_source = omega (arith, repeating_length, copies_fit m (omega arith))
+
+      pub repeating_room : from + n * (to - from) + (from + m * (to - from) - from) ≤ length row
+      repeating_room = omega (arith, repeating_length, behind m, copies_fit (n + m) fits)
+
+      pub repeating_again : Repeating before from to count (pasted row n m) (n + m)
+      repeating_again =
+          let x : List ℕ = between before from to in
+          let k : length x ≡ to - from = between-length before from to h repeating_to in
+          let size : length (repeated m x) ≡ m * (to - from) = repeated-length m x ∙ ap (λ z. m * z) k in
+          let room : from + n * (to - from) + m * (to - from) ≤ length before
+          = omega (arith, behind m, copies_fit (n + m) fits) in
+          let some : m * (to - from) ≡ from + m * (to - from) - from = omega arith in
+          let a : Appended before from (repeated n x ++ repeated m x) (pasted row n m)
+              (from + n * (to - from) + m * (to - from))
+          = subst (λ z. Appended before from (repeated n x ++ repeated m x)
+              (paste row (from + n * (to - from)) (drop from row) z) (from + n * (to - from) + m * (to - from))) some
+              (appended_paste c.appended (drop from row) (repeated m x) (m * (to - from)) (copied m l) size room) in
+          record {
+            low = omega (arith, c.low);
+            high = fits;
+            appended =
+                subst (λ z. Appended before from z (pasted row n m) (from + (n + m) * (to - from)))
+                (sym (repeated_more n m x))
+                (subst (λ z. Appended before from (repeated n x ++ repeated m x) (pasted row n m) z) (behind m) a);
+          }

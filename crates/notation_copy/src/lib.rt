@@ -17,8 +17,12 @@ pub fn repeat(area: &mut [u8], from: usize, to: usize, count: usize) -> usize
         area.new result }
 {
     let width = to - from;
-    for n in 1..count {
-        area.copy_within(from..to, from + n * width);
+    // Each turn copies as many as stand, or as are wanted yet: so a count costs as many turns as it has bits.
+    let mut n = 1;
+    while n < count {
+        let more = n.min(count - n);
+        area.copy_within(from..from + more * width, from + n * width);
+        n += more;
     }
     from + count * width
 }

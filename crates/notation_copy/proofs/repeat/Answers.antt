@@ -1,7 +1,6 @@
--- `notation_copy::repeat` meets its contract: the first copy stands, and each turn writes the next behind those that
--- stand.
+-- `notation_copy::repeat` meets its contract: the first copy stands, and each turn writes more behind those that stand.
 use Rattle.std.proofs.Common.{arith}
-use Rattle.notation_copy.specs.RepeatLaws.{repeating_start, repeating_again}
+use Rattle.notation_copy.specs.RepeatLaws.{repeating_start, repeating_source, repeating_room, repeating_again}
 use Rattle.notation_copy.proofs.repeat.Goals as goal
 
 pub loop-n-init : goal.loop-n-init
@@ -9,9 +8,17 @@ loop-n-init c =
     let p = c.requires in
     repeating_start c.args.area.now c.args.from c.args.to c.args.count p.in_order p.once p.room
 
+pub copy_within-requires-clause-dest_in_bounds : goal.copy_within-requires-clause-dest_in_bounds
+copy_within-requires-clause-dest_in_bounds c =
+    let a = c.args in
+    let p = c.requires in
+    repeating_room a.area.now a.from a.to a.count p.in_order p.once p.room c.loop-n.invariant c.min-more.result
+    (omega arith) (omega arith)
+
 pub loop-n-preserved : goal.loop-n-preserved
 loop-n-preserved c =
     let a = c.args in
     let p = c.requires in
     rw c.copy_within.ensures.after
-    (repeating_again a.area.now a.from a.to a.count p.in_order p.once p.room c.loop-n.invariant (omega arith))
+    (repeating_again a.area.now a.from a.to a.count p.in_order p.once p.room c.loop-n.invariant c.min-more.result
+    (omega arith) (omega arith))
