@@ -15,7 +15,7 @@ use conjugacy_commands::{occurring, same_commands};
 use conjugacy_labels::labels;
 use conjugacy_of_parts::{Outcome, join_part};
 use conjugacy_parts::group;
-use conjugacy_rounds::{Group, Parts, group_rounds, most_rounds};
+use conjugacy_rounds::{Group, Parts, group_rounds, larger, most_rounds};
 
 // Whether the part of command k + 1 is joined, and its lead-in behind the first bytes of the row. A command that does
 // not occur or is not the apex of its part has nothing to join.
@@ -101,12 +101,12 @@ fn join_parts(
     let mut most = 0;
     for k in 0..24 {
         let way = join_at(one, two, parts, k, conflicts, row, end);
-        most = most.max(way.rounds);
+        most = larger(most, way.rounds);
         let Some(next) = way.end else {
             let rest = rest_rounds(one, two, parts, k, conflicts, row, at);
             return Outcome {
                 end: None,
-                rounds: most.max(rest),
+                rounds: larger(rest, most),
             };
         };
         end = next;

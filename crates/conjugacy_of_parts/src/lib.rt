@@ -10,6 +10,7 @@ ghost use Rattle.conjugacy_of_parts.specs.Parts.{RingsRoom, RingsOutcome, Partab
 use array_row::{append_undone, undo_between};
 use conjugacy_ring::ring_of;
 use conjugacy_rotation::rotation;
+use conjugacy_rounds::larger;
 
 // The end of a lead-in, where two loops are joined; and the most rounds that a part took, joined or not. The end is a
 // place in a row, and only for whole plans the length that `spec::Loops` has.
@@ -63,6 +64,6 @@ pub fn join_part(
     );
     Outcome {
         end,
-        rounds: one.rounds.max(two.rounds),
+        rounds: larger(one.rounds, two.rounds),
     }
 }

@@ -11,6 +11,13 @@ ghost use Rattle.conjugacy_rounds.specs.Counting.{ApexOf, CoreOf, GroupOf, Count
 use conjugacy_parts::group;
 use conjugacy_settled_parts::settle_part;
 
+// The larger of two numbers.
+pub fn larger(a: usize, b: usize) -> usize
+    ensures { result ≡ max a b }
+{
+    a.max(b)
+}
+
 // Which commands occur in a core, as flags, and the label of each: the largest command of its part.
 #[derive(Clone, Copy)]
 pub struct Parts {
@@ -154,7 +161,7 @@ pub fn group_rounds(
     let mut found = most;
     for j in k..24 {
         let count = rounds_at(group, parts, j, conflicts, row, at);
-        found = found.max(count);
+        found = larger(found, count);
     }
     found
 }
@@ -206,5 +213,5 @@ pub fn most_rounds(
         return several_rounds(core, parts, most, conflicts, row, at);
     };
     let count = apex_rounds(core, &parts.labels, k, conflicts, row, at);
-    most.max(count)
+    larger(most, count)
 }

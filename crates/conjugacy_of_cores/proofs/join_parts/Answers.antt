@@ -1,14 +1,9 @@
 -- The loop's invariant: the row is as long as it was, and under every catalogue the apexes passed are joined, their
 -- lead-ins stand in the row, and their rounds are counted. Assumes nothing.
-use Rattle.std.specs.Prelude.{ℕ, ◌≡◌, max}
-use Rattle.std.specs.Ordering.{ord_max, nat_cmp}
-use Rattle.std.proofs.Common.{refl, ◌∙◌, arith, rules}
+use Rattle.std.proofs.Common.{refl, ◌∙◌, arith}
 use Rattle.conjugacy_of_cores.specs.CountLaws.{joinable_as_long}
 use Rattle.conjugacy_of_cores.specs.SofarLaws.{sofar_start, sofar_placeable, sofar_again, sofar_stop, sofar_end}
 use Rattle.conjugacy_of_cores.proofs.join_parts.Goals as goal
-
-larger : (m n : ℕ) → ord_max nat_cmp m n ≡ max m n
-larger m n = search rules
 
 pub loop-k-init : goal.loop-k-init
 loop-k-init c = (refl, λ k x y g h. sofar_start h)
@@ -32,9 +27,9 @@ returns-in_default c =
     λ k x y g h.
     let told = w.ensures k x y g (sofar_placeable h (i.1 k x y g h) i.0 (omega arith)) in
     sofar_stop h (i.1 k x y g h) w.new.row b.new.row (omega arith) told c.in_default.is
-    (c.max-most.ensures ∙ larger _ _)
+    c.larger-most.ensures
     (b.ensures k x y g (joinable_as_long h (w.auto.row ∙ i.0)))
-    c.max.ensures
+    (omega arith)
 
 pub loop-k-preserved : goal.loop-k-preserved
 loop-k-preserved c =
@@ -44,7 +39,7 @@ loop-k-preserved c =
       λ k x y g h.
           let told = w.ensures k x y g (sofar_placeable h (i.1 k x y g h) i.0 (omega arith)) in
           sofar_again h (i.1 k x y g h) (omega arith) told c.in-Some.is
-          (c.max-most.ensures ∙ larger _ _),
+          (omega arith),
     )
 
 pub returns : goal.returns

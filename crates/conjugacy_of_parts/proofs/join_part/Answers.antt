@@ -44,5 +44,5 @@ returns c =
     λ k x y h.
     let one = c.ring_of-one.ensures k x (part_first h) in
     let two = c.ring_of-two.ensures k y (part_second h one m) in
-    part_outcome h one m two n c.join_rings-end.new.row c.max.ensures c.join_rings-end.result
+    part_outcome h one m two n c.join_rings-end.new.row c.larger.ensures c.join_rings-end.result
     (c.join_rings-end.ensures k _ (way_cycled h one m two n))

@@ -8,7 +8,7 @@ use Rattle.conjugacy_rounds.proofs.group_rounds.Goals as goal
 pub loop-j-preserved : goal.loop-j-preserved
 loop-j-preserved c =
     counting_again c.loop-j.invariant c.loop-j-test.true (search rules) c.rounds_at-count.ensures
-    c.max-found.ensures
+    c.larger-found.ensures
 
 pub returns : goal.returns
 returns c = counting_end c.loop-j.invariant c.loop-j-test.false

@@ -11,4 +11,4 @@ apex_rounds-count-requires c =
 pub returns : goal.returns
 returns c =
     let (l, o) = c.in-Some.ensures in
-    λ k h. lone_counts h l o (c.apex_rounds-count.ensures k _ (lone_part h l o)) c.max.ensures
+    λ k h. lone_counts h l o (c.apex_rounds-count.ensures k _ (lone_part h l o)) c.larger.ensures
