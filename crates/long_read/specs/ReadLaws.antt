@@ -69,7 +69,7 @@ module _ {n : ℕ} {conflicts : List (List ℕ)} {word : List ℕ} {s₀ : Linke
     lined t = let h = underway_low in record { within = h; wide = t.wide k h; tells = λ j i. t.tells k j h i }
 
     -- no stack below the start of row k has a letter on top when the letter of row k is off
-    underway_passed : {starts : List ℕ} {s' : LinkedStacks n} → Starts conflicts starts
+    pub underway_passed : {starts : List ℕ} {s' : LinkedStacks n} → Starts conflicts starts
         → Cut s (get_or conflicts k []) k s' → NoneBelow (LetterOnTop s') (get_or starts k 0)
     underway_passed {s' = s'} t u =
         let h : k < 24 = underway_low in
