@@ -24,8 +24,9 @@ pub use form::{Form, normal_form};
 pub use found::Found;
 pub use pairing::pairs;
 pub use refusals::{
-    Refusal, check_catalogue, check_form, check_loops, check_normal_form, check_slots, check_three,
+    Refusal, check_catalogue, check_form, check_loops, check_normal_form, check_precedence,
+    check_slots, check_three,
 };
 pub use rounds::most_rounds;
 pub use slotting::slots;
-pub use word::{at, undo};
+pub use word::{Word, at, undo};

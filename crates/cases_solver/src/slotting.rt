@@ -5,6 +5,8 @@ ghost use Rattle.std.specs.Prelude.{◌≤◌, length};
 
 use crate::catalogue::tied;
 use crate::form::normal_form;
+use crate::pairing::write;
+use crate::word::at;
 
 // The most letters of a chain in a word whose last is tied to a: with the last letter of the word, where that is tied
 // to a, or without it.
@@ -21,17 +23,21 @@ fn longest(c: &[u8], word: &[u8], a: u8) -> usize
     without.max(1 + longest(c, rest, *b))
 }
 
+// Is number i none of those before it.
+fn different(numbers: &[u16], i: usize) -> bool {
+    (0..i).all(|j| at(numbers, j) != at(numbers, i))
+}
+
 // The slots of the letters of a plan's normal form, at the start of numbers, for as many as there is room. Gives how
-// many different ones there are.
+// many different ones there are; each one that has no room counts as slot 0.
 pub fn slots(c: &[u8], plan: &[u8], numbers: &mut [u16]) -> usize {
     let form = normal_form(c, plan);
     let mut count: usize = 0;
-    for i in 0..form.length.min(numbers.len()) {
-        let slot = longest(c, &form.letters[..i], form.letters[i]) as u16;
-        if !numbers[..i].contains(&slot) {
+    for i in 0..form.length {
+        write(numbers, i, longest(c, &form.letters[..i], form.letters[i]));
+        if different(numbers, i) {
             count += 1;
         }
-        numbers[i] = slot;
     }
     count
 }
