@@ -1,5 +1,7 @@
 // Areas to lend, of bytes and of numbers, filled with what is no letter, no place and no slot.
 
+ghost use Rattle.std.specs.Prelude.{◌≡◌, length};
+
 pub type Bytes = [u8; 1100];
 
 pub type Numbers = [u16; 1100];
@@ -14,7 +16,9 @@ pub fn kept<T: PartialEq>(area: &[T], n: usize, filler: &T) -> bool {
 }
 
 // Bytes as the first numbers of an array, with zeros behind them.
-pub fn widened(bytes: &[u8]) -> Numbers {
+pub fn widened(bytes: &[u8]) -> Numbers
+    ensures { 1100 ≡ length result }
+{
     let mut numbers = [0; 1100];
     for (number, b) in numbers.iter_mut().zip(bytes) {
         *number = u16::from(*b);
