@@ -9,7 +9,8 @@ mod ask;
 mod solve;
 
 use cases_report::{Told, answers, count, every};
-use cases_table::{Call, Question, in_second, plan_of_four, plans_of_two, read};
+use cases_solver::at;
+use cases_table::{Call, Part, Question, end, in_second, plan_of_four, plans_of_two, read};
 
 const PLANS: &[u8] = b" plans of 4 bytes agree, in form, pairs and core\n";
 
@@ -19,36 +20,40 @@ const LOOPS: &[u8] = b" pairs of plans of 2 bytes agree, also in rounds\n";
 // agree.
 fn compare(q: &Question, catalogue: &[u8]) -> bool {
     let mut area = [0u8; 1100];
-    let n = q.area.size().min(1100);
-    let numbers = q.second_area.size().min(1100);
+    let n = q.size(Part::Area).min(1100);
+    let numbers = q.size(Part::SecondArea).min(1100);
     let theirs = Told {
         answer: solve::solved(q, catalogue, n, numbers),
         kept: true,
     };
     let ours = ask::asked(q, &mut area[..n], numbers);
-    answers(q.name.bytes(), &ours, &theirs)
+    answers(q.bytes(Part::Name), &ours, &theirs)
 }
 
 // The same under its own catalogue.
 fn put(q: &Question) -> bool {
-    compare(q, q.catalogue.bytes())
+    compare(q, q.bytes(Part::Catalogue))
 }
 
 // The same, and once more where the library is given the catalogue in the second edition.
 fn put_twice(q: &Question) -> bool {
-    put(q) && compare(&in_second(q), q.catalogue.bytes())
+    put(q) && compare(&in_second(q), q.bytes(Part::Catalogue))
 }
 
-// Puts a line of the table, whose newline the last may lack; do they agree.
-fn put_line(line: &[u8]) -> bool {
-    put_twice(&read(line.strip_suffix(b"\n").unwrap_or(line)))
-}
-
-// Every line of the table.
+// Every line of the table. The table ends where a line would begin with a 0, or behind 16,384 bytes. No for: a line
+// begins where the one before it ends.
 fn table(text: &[u8]) {
-    let lines = || text.split_inclusive(|b| *b == b'\n');
-    let agree = lines().filter(|line| put_line(line)).count();
-    count(agree, lines().count(), b" cases agree\n");
+    let mut agree: usize = 0;
+    let mut cases: usize = 0;
+    let mut start: usize = 0;
+    while start < 16384 && at(text, start) != 0 {
+        if put_twice(&read(text, start)) {
+            agree += 1;
+        }
+        cases += 1;
+        start = end(text, start) + 1;
+    }
+    count(agree, cases, b" cases agree\n");
 }
 
 // Do they agree on plan number p of four bytes, in normal form, pairs and core.

@@ -2,14 +2,14 @@
 
 #![tactic(auto)]
 
+ghost use Rattle.std.specs.Prelude.{◌<◌, ◌≤◌, length};
+
 mod every;
 mod line;
-mod part;
 mod second;
 
 pub use every::{plan_of_four, plans_of_two};
-pub use line::read;
-pub use part::Part;
+pub use line::{end, read};
 pub use second::in_second;
 
 // The calls; the table has the word in brackets.
@@ -34,31 +34,106 @@ pub enum Call {
     LeadIn,
 }
 
-// Of the two areas the sizes count.
+// The parts of a question, in the order in which their bytes begin. Of the two areas the sizes count.
+#[derive(Clone, Copy, PartialEq, Eq)]
+pub enum Part {
+    W,
+    U,
+    Area,
+    SecondArea,
+    Name,
+    Catalogue,
+    V,
+}
+
+impl Part {
+    fn index(self) -> usize
+        ensures { result < 7 }
+    {
+        self as usize
+    }
+
+    // Where its bytes begin: a part has room for 128 of them, but the catalogue for 3,200 and v for 1,100.
+    fn start(self) -> usize
+        ensures { result ≤ 3840 }
+    {
+        match self {
+            Part::V => 3840,
+            _ => 128 * self.index(),
+        }
+    }
+}
+
+// The parts share one row of bytes: where one is longer than its room, its bytes lie over those of the next ones. One
+// that is made longer has the bytes that lay there before. A size is modulo 65,536.
 #[derive(Clone, Copy)]
 pub struct Question {
-    pub name: Part,
     pub call: Call,
-    pub catalogue: Part,
-    pub v: Part,
-    pub w: Part,
-    pub u: Part,
-    pub area: Part,
-    pub second_area: Part,
+    // whether the part of the catalogue has been opened, with another byte than 0 two places behind the mark
+    own_catalogue: bool,
+    sizes: [u16; 7],
+    bytes: [u8; 4940],
 }
 
 impl Question {
-    // A call under K, with conflicts 1-2, 2-3, 3-4, on empty plans, in areas that are large enough for any case.
-    fn under_k(call: Call) -> Question {
-        Question {
-            name: Part::new(),
+    // A call with no catalogue, on empty plans, in areas that are large enough for any case.
+    fn blank(call: Call) -> Question {
+        let mut q = Question {
             call,
-            catalogue: Part::of(&[4, 3, 1, 2, 3, 0, 2, 0, 3, 0, 4, 0]),
-            v: Part::new(),
-            w: Part::new(),
-            u: Part::new(),
-            area: Part::of_size(1100),
-            second_area: Part::of_size(1100),
+            own_catalogue: false,
+            sizes: [0; 7],
+            bytes: [0; 4940],
+        };
+        q.resize(Part::Area, 1100);
+        q.resize(Part::SecondArea, 1100);
+        q
+    }
+
+    // The same under K, with conflicts 1-2, 2-3, 3-4.
+    fn under_k(call: Call) -> Question {
+        let mut q = Question::blank(call);
+        q.bring_k();
+        q
+    }
+
+    fn bring_k(&mut self) {
+        self.resize(Part::Catalogue, 0);
+        for b in &[4, 3, 1, 2, 3, 0, 2, 0, 3, 0, 4, 0] {
+            self.push(Part::Catalogue, *b);
         }
+    }
+
+    pub fn size(&self, part: Part) -> usize
+        ensures { result < 65536 }
+    {
+        usize::from(self.sizes[part.index()])
+    }
+
+    // The bytes of a part; none if they would go past the end of the row.
+    pub fn bytes(&self, part: Part) -> &[u8]
+        ensures { length result.now ≤ 4940 }
+    {
+        let start = part.start();
+        let end = start + self.size(part);
+        if end <= 4940 {
+            &self.bytes[start..end]
+        } else {
+            &[]
+        }
+    }
+
+    // One more byte in a part; none is written past the end of the row.
+    fn push(&mut self, part: Part, b: u8) {
+        let n = self.size(part);
+        let place = part.start() + n;
+        if place < 4940 {
+            self.bytes[place] = b;
+        }
+        self.resize(part, n + 1);
+    }
+
+    // Makes a part so many bytes in all, whatever these are.
+    fn resize(&mut self, part: Part, size: usize) {
+        self.sizes[part.index()] = (size % 65536) as u16;
     }
 }

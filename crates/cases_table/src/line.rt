@@ -3,50 +3,41 @@
 // catalogue than K. −3 is byte or place 131, and "0 x5" is five zeros. "~9" is the first eight records of the second
 // edition, of command 2, each of which leads to the next one.
 
-ghost use Rattle.std.specs.Prelude.{◌<◌};
+ghost use Rattle.std.specs.Prelude.{◌<◌, ◌≤◌};
 
 use crate::{Call, Part, Question};
+use cases_solver::at;
 
-// The part of a question that is being read.
-#[derive(Clone, Copy, PartialEq, Eq)]
-enum Open {
-    Name,
-    Catalogue,
-    V,
-    W,
-    U,
-    Area,
-    SecondArea,
-}
-
-impl Open {
-    // The part that a character opens, or else the part that is open.
-    fn after(self, mark: u8) -> Open {
-        match mark {
-            b':' => Open::V,
-            b';' => self.next(),
-            b'@' => Open::Area,
-            b'#' => Open::Catalogue,
-            _ => self,
-        }
-    }
-
-    fn next(self) -> Open {
-        match self {
-            Open::V => Open::W,
-            Open::W => Open::U,
-            Open::Area => Open::SecondArea,
-            last => last,
-        }
+// The part that a character opens, or else the part that is open; ";" goes round all of them.
+fn opened(open: Part, mark: u8) -> Part {
+    match mark {
+        b':' => Part::V,
+        b';' => next(open),
+        b'@' => Part::Area,
+        b'#' => Part::Catalogue,
+        _ => open,
     }
 }
 
-// The call that a word names.
+fn next(open: Part) -> Part {
+    match open {
+        Part::W => Part::U,
+        Part::U => Part::Area,
+        Part::Area => Part::SecondArea,
+        Part::SecondArea => Part::Name,
+        Part::Name => Part::Catalogue,
+        Part::Catalogue => Part::V,
+        Part::V => Part::W,
+    }
+}
+
+// The call that a word names; "o" is precedence too.
 fn call(word: &[u8]) -> Call {
     match word {
         [b'r', ..] => Call::Conflict,
         [b'n', ..] => Call::NormalForm,
         [b'p', b'r', ..] => Call::Precedence,
+        [b'o', ..] => Call::Precedence,
         [b'p', ..] => Call::Pairs,
         [b's', ..] => Call::Slots,
         [b'c', ..] => Call::Core,
@@ -78,73 +69,88 @@ fn byte(mark: u8, value: usize) -> u8 {
 }
 
 // The records before number n of the second edition, of command 2, each of which leads to the next one.
-fn push_chain(part: &mut Part, n: usize)
+fn push_chain(q: &mut Question, part: Part, n: usize)
     requires { n < 10000 }
 {
     for next in 2..n + 1 {
-        part.push(2);
-        part.push((next % 256) as u8);
-        part.push((next / 256 % 256) as u8);
+        q.push(part, 2);
+        q.push(part, (next % 256) as u8);
+        q.push(part, (next / 256 % 256) as u8);
     }
 }
 
 // Takes a number behind a mark into a part: one byte more, or after "x" so many in all, or after "~" a chain.
-fn take(part: &mut Part, mark: u8, value: usize)
+fn take(q: &mut Question, part: Part, mark: u8, value: usize)
     requires { value < 10000 }
 {
     match mark {
-        b'x' => part.resize(value),
-        b'~' => push_chain(part, value),
-        _ => part.push(byte(mark, value)),
-    }
-}
-
-fn part_of(q: &mut Question, open: Open) -> &mut Part {
-    match open {
-        Open::Name => &mut q.name,
-        Open::Catalogue => &mut q.catalogue,
-        Open::V => &mut q.v,
-        Open::W => &mut q.w,
-        Open::U => &mut q.u,
-        Open::Area => &mut q.area,
-        Open::SecondArea => &mut q.second_area,
+        b'x' => q.resize(part, value),
+        b'~' => push_chain(q, part, value),
+        _ => q.push(part, byte(mark, value)),
     }
 }
 
 // A letter of the name, or a number that begins behind a mark.
-fn keep(q: &mut Question, open: Open, mark: u8, rest: &[u8]) {
-    let part = part_of(q, open);
-    if open == Open::Name {
-        part.push(mark);
+fn keep(q: &mut Question, open: Part, mark: u8, behind: &[u8]) {
+    if open == Part::Name {
+        q.push(open, mark);
     } else if !mark.is_ascii_digit() {
-        if let [b'0'..=b'9', ..] = rest {
-            take(part, mark, number(rest));
+        if let [b'0'..=b'9', ..] = behind {
+            take(q, open, mark, number(behind));
         }
     }
 }
 
-// Opens a part, which begins empty; behind a mark and a blank stands the call, in front of v.
-fn begin(q: &mut Question, open: Open, rest: &[u8]) {
-    *part_of(q, open) = Part::new();
-    if let (Open::V, [_, word @ ..]) = (open, rest) {
-        q.call = call(word);
+// Opens a part, which begins with no byte; behind a mark and one more byte stands the call, in front of v.
+fn begin(q: &mut Question, open: Part, behind: &[u8]) {
+    let word = behind.get(1..).unwrap_or(b"");
+    q.resize(open, 0);
+    match open {
+        Part::V => q.call = call(word),
+        Part::Catalogue => q.own_catalogue = at(word, 0) != 0,
+        _ => {}
     }
 }
 
-// Reads a line. No for: a character is read together with those behind it.
-pub fn read(line: &[u8]) -> Question {
-    let mut q = Question::under_k(Call::LeadIn);
-    let mut open = Open::Name;
-    let mut rest = line;
-    while let Some((mark, behind)) = rest.split_first() {
-        let next = open.after(*mark);
+// Reads the line at a place of a text, of which 16,383 bytes are read; behind its end stand zeros.
+fn read_line(text: &[u8], start: usize) -> Question {
+    let mut q = Question::blank(Call::LeadIn);
+    let mut open = Part::Name;
+    for i in start..16383 {
+        let mark = at(text, i);
+        if mark == b'\n' {
+            break;
+        }
+        let behind = text.get(i + 1..).unwrap_or(b"");
+        let next = opened(open, mark);
         if next == open {
-            keep(&mut q, open, *mark, behind);
+            keep(&mut q, open, mark, behind);
         } else {
             begin(&mut q, next, behind);
         }
         open = next;
-        rest = behind;
     }
     q
+}
+
+// The question on the line at a place of a text, under K unless the line brings another catalogue.
+pub fn read(text: &[u8], start: usize) -> Question {
+    let mut q = read_line(text, start);
+    if !q.own_catalogue {
+        q.bring_k();
+    }
+    q
+}
+
+// The end of the line at a place of a text.
+pub fn end(text: &[u8], start: usize) -> usize
+    requires { start ≤ 16383 }
+    ensures { (start ≤ result) × (result ≤ 16383) }
+{
+    for i in start..16383 {
+        if at(text, i) == b'\n' {
+            return i;
+        }
+    }
+    16383
 }

@@ -25,24 +25,23 @@ fn byte(c: &[u8], n: usize, i: usize) -> u8
     half(at(c, 2 + n + 2 * (k / 3) + k % 3), k % 3 != 2)
 }
 
-// A catalogue of the first edition that passes, written in the second.
-fn rewritten(c: &[u8]) -> Part {
+// Writes the catalogue in the second edition, from these bytes of the first, which pass.
+fn rewrite(q: &mut Question, c: &[u8]) {
     let n = usize::from(at(c, 0) % 128);
     let r = usize::from(at(c, 1));
-    let mut again = Part::new();
+    q.resize(Part::Catalogue, 0);
     for i in 0..3 + 2 * n + 3 * r {
-        again.push(byte(c, n, i));
+        q.push(Part::Catalogue, byte(c, n, i));
     }
-    again
 }
 
 // The question without its name and in the second edition, if its catalogue is of the first and passes.
 pub fn in_second(q: &Question) -> Question {
-    let c = q.catalogue.bytes();
+    let c = q.bytes(Part::Catalogue);
     let mut again = *q;
-    again.name = Part::new();
+    again.resize(Part::Name, 0);
     if at(c, 0) < 128 && check_catalogue(c).is_ok() {
-        again.catalogue = rewritten(c);
+        rewrite(&mut again, c);
     }
     again
 }
