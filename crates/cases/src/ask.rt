@@ -3,7 +3,7 @@
 ghost use Rattle.std.specs.Prelude.{◌<◌, ◌≤◌};
 
 use cases_report::{Answer, KEPT_NUMBER, Pairs, Slots, Told, kept, letters, refused, widened};
-use cases_solver::{Refusal, at, leads};
+use cases_solver::{Form, Refusal, at, leads};
 use cases_table::{Call, Part, Question};
 
 // The row of a command; that of command 1 for a number that is none. No Option: no line of the table asks about one.
@@ -20,14 +20,21 @@ fn row(command: u8) -> usize
 fn conflict(c: &[u8], v: &[u8]) -> Result<Answer, Refusal> {
     let mut rows = [[0u16; 24]; 24];
     let answer = busplan::read_catalogue(c, &mut rows);
-    let conflict = rows[row(at(v, 0))][row(at(v, 1))] == 1;
-    answer.map(|_| Answer::Conflict(conflict)).map_err(refused)
+    let number = (rows[row(at(v, 0))][row(at(v, 1))] % 256) as u8;
+    answer.map(|_| Answer::Conflict(number)).map_err(refused)
+}
+
+// The form of so many letters at the start of an area, its length modulo 256.
+fn told_form(area: &[u8], length: usize) -> Form {
+    let mut form = letters(area, length);
+    form.length = length % 256;
+    form
 }
 
 // The normal form, with a second area.
 fn normal(c: &[u8], v: &[u8], area: &mut [u8], second: &mut [u16]) -> Result<Answer, Refusal> {
     let form = busplan::normal_form(c, v, area, second).map_err(refused)?;
-    Ok(Answer::Form(letters(area, form.length)))
+    Ok(Answer::Form(told_form(area, form.length)))
 }
 
 // Its pairs, with a second area of so many numbers.
@@ -45,6 +52,13 @@ fn pairs(c: &[u8], v: &[u8], area: &mut [u8], numbers: usize) -> Told
     }
 }
 
+// Slots, with a byte over letter 59 that is 0 if all numbers were kept that were to be kept.
+fn told_slots(form: Form, numbers: &[u16], in_use: usize, kept: bool) -> Slots {
+    let mut told = Slots::of(form, numbers, in_use);
+    told.form.letters[58] = u8::from(!kept);
+    told
+}
+
 // Its slots.
 fn slots(c: &[u8], v: &[u8], area: &mut [u8], numbers: usize) -> Told
     requires { numbers ≤ 1100 }
@@ -52,12 +66,13 @@ fn slots(c: &[u8], v: &[u8], area: &mut [u8], numbers: usize) -> Told
     let mut second = [KEPT_NUMBER; 1100];
     let answer = busplan::slots(c, v, area, &mut second[..numbers]);
     let length = answer.map_or(0, |told| told.length);
-    let form = letters(area, length);
+    let form = told_form(area, length);
+    let kept = kept(&second, length, &KEPT_NUMBER);
     Told {
         answer: answer
-            .map(|told| Answer::Slots(Slots::of(form, &second, told.in_use)))
+            .map(|told| Answer::Slots(told_slots(form, &second, told.in_use, kept)))
             .map_err(refused),
-        kept: kept(&second, length, &KEPT_NUMBER),
+        kept,
     }
 }
 
@@ -70,7 +85,7 @@ fn precedence(c: &[u8], v: &[u8], places: &[u8]) -> Result<Answer, Refusal> {
 
 fn core(c: &[u8], v: &[u8], area: &mut [u8]) -> Result<Answer, Refusal> {
     let length = busplan::core(c, v, area).map_err(refused)?;
-    Ok(Answer::Form(letters(area, length)))
+    Ok(Answer::Form(told_form(area, length)))
 }
 
 fn equal(c: &[u8], v: &[u8], w: &[u8]) -> Result<Answer, Refusal> {

@@ -8,7 +8,7 @@
 mod ask;
 mod solve;
 
-use cases_report::{Told, answers, count, every};
+use cases_report::{answers, count, every};
 use cases_solver::at;
 use cases_table::{Call, Part, Question, end, in_second, plan_of_four, plans_of_two, read};
 
@@ -22,10 +22,7 @@ fn compare(q: &Question, catalogue: &[u8]) -> bool {
     let mut area = [0u8; 1100];
     let n = q.size(Part::Area).min(1100);
     let numbers = q.size(Part::SecondArea).min(1100);
-    let theirs = Told {
-        answer: solve::solved(q, catalogue, n, numbers),
-        kept: true,
-    };
+    let theirs = solve::told(q, catalogue, n, numbers);
     let ours = ask::asked(q, &mut area[..n], numbers);
     answers(q.bytes(Part::Name), &ours, &theirs)
 }

@@ -1,6 +1,6 @@
 // What the solver answers.
 
-use cases_report::{Answer, KEPT_NUMBER, Pairs, Slots, widened};
+use cases_report::{Answer, KEPT_NUMBER, Pairs, Slots, Told, widened};
 use cases_solver::{
     Refusal, at, check_catalogue, check_form, check_loops, check_normal_form, check_slots,
     check_three, core, in_order, joined, leads, most_rounds, normal_form, tied,
@@ -35,12 +35,15 @@ fn loops(c: &[u8], v: &[u8], w: &[u8]) -> Answer {
 }
 
 // The answer to a question under this catalogue, in an area of so many bytes and a second one of so many numbers.
-pub fn solved(q: &Question, c: &[u8], room: usize, numbers: usize) -> Result<Answer, Refusal> {
+fn solved(q: &Question, c: &[u8], room: usize, numbers: usize) -> Result<Answer, Refusal> {
     let v = q.bytes(Part::V);
     let w = q.bytes(Part::W);
     let u = q.bytes(Part::U);
     match q.call {
-        Call::Conflict => check_catalogue(c).map(|_| Answer::Conflict(tied(c, at(v, 0), at(v, 1)))),
+        Call::Conflict => {
+            let number = u8::from(tied(c, at(v, 0), at(v, 1)));
+            check_catalogue(c).map(|_| Answer::Conflict(number))
+        }
         Call::NormalForm => {
             check_normal_form(c, v, room, numbers).map(|_| Answer::Form(normal_form(c, v)))
         }
@@ -53,4 +56,15 @@ pub fn solved(q: &Question, c: &[u8], room: usize, numbers: usize) -> Result<Ans
         Call::Fault => check_three(c, v, w, u).map(|_| Answer::NoFault),
         Call::LeadIn => Ok(Answer::LeadIn(leads(c, v, w, u))),
     }
+}
+
+// The same, as it is told. Over letter 59 of a form with slots lies whether all numbers were kept that were to be kept,
+// so that such a letter is told as a number that was not.
+pub fn told(q: &Question, c: &[u8], room: usize, numbers: usize) -> Told {
+    let answer = solved(q, c, room, numbers);
+    let kept = match &answer {
+        Ok(Answer::Slots(told)) => told.form.letters[58] == 0,
+        _ => true,
+    };
+    Told { answer, kept }
 }

@@ -1,9 +1,9 @@
 // Answers, as they are compared and printed.
 
-use cases_solver::{Form, Refusal};
+use cases_solver::{Form, Refusal, at};
 
-// Pairs: how many there are, and the places of the letters of the first 14, that of the earlier letter before that of
-// the later, with zeros behind them.
+// Pairs: how many there are, modulo 256, and the places of the letters of the first 14, that of the earlier letter
+// before that of the later, with zeros behind them.
 #[derive(Clone, Copy, PartialEq, Eq)]
 pub struct Pairs {
     pub count: usize,
@@ -20,39 +20,51 @@ impl Pairs {
         {
             *place = *number;
         }
-        Pairs { count, places }
+        Pairs {
+            count: count % 256,
+            places,
+        }
     }
 }
 
-// A normal form, the slots of its first 28 letters with zeros behind them, and how many slots are in use.
+// A normal form, the slots of its first 28 letters with zeros behind them, and how many slots are in use. There is room
+// for these letters alone: over the ones behind them lie the number in use and then the slots.
 #[derive(Clone, Copy, PartialEq, Eq)]
 pub struct Slots {
     pub form: Form,
-    pub slots: [u16; 28],
-    pub in_use: usize,
+    pub slots: [u8; 28],
+    pub in_use: u8,
+}
+
+// A number as a byte; one that is above 255 is told as 255.
+fn short(number: usize) -> u8 {
+    u8::try_from(number).unwrap_or(255)
 }
 
 impl Slots {
-    // The slots at the start of a slot area; one that is above 255 is told as 255.
+    // The slots at the start of a slot area.
     pub fn of(form: Form, numbers: &[u16], in_use: usize) -> Slots {
-        let mut slots = [0; 28];
-        for (slot, number) in slots.iter_mut().zip(numbers.iter().take(form.length)) {
-            *slot = (*number).min(255);
-        }
-        Slots {
+        let mut told = Slots {
             form,
-            slots,
-            in_use,
+            slots: [0; 28],
+            in_use: short(in_use),
+        };
+        told.form.letters[28] = told.in_use;
+        for i in 0..form.length.min(28) {
+            let slot = short(usize::from(at(numbers, i)));
+            told.slots[i] = slot;
+            told.form.letters[29 + i] = slot;
         }
+        told
     }
 }
 
 // What a call answers that is not refused.
 #[derive(Clone, Copy, PartialEq, Eq)]
 pub enum Answer {
-    // whether two commands conflict
-    Conflict(bool),
-    // a normal form or a core
+    // the number that a catalogue's table has for two commands, modulo 256: 1 if they conflict, or else 0
+    Conflict(u8),
+    // a normal form or a core, its length modulo 256
     Form(Form),
     Pairs(Pairs),
     Slots(Slots),

@@ -2,7 +2,7 @@
 // handle, which Display and println would have to be given.
 
 use crate::answer::{Answer, Pairs, Slots, Told};
-use cases_solver::{Form, Refusal};
+use cases_solver::{Form, Refusal, at};
 
 pub fn text(bytes: &[u8]) {
     io::write_all(1, bytes);
@@ -25,12 +25,13 @@ pub fn signed(b: u8) {
     number((b % 128) as usize);
 }
 
+// The letters of a normal form; those for which it has no room are told as 0.
 fn form(form: &Form) {
     if form.length == 0 {
         text(b" empty");
     }
-    for a in form.letters.iter().take(form.length) {
-        signed(*a);
+    for i in 0..form.length {
+        signed(at(&form.letters, i));
     }
 }
 
@@ -69,7 +70,7 @@ fn slots(slots: &Slots) {
         byte(b' ');
         number(*slot as usize);
     }
-    in_use(slots.in_use);
+    in_use(usize::from(slots.in_use));
 }
 
 pub fn refusal(refusal: Refusal) {
@@ -85,6 +86,17 @@ fn verdict(holds: bool, yes: &[u8], no: &[u8]) {
     text(if holds { yes } else { no });
 }
 
+const ASTRAY: &[u8] = b" joined, but the lead-in is none";
+
+// Whether two commands conflict; any other number is told in the words for what should not be.
+fn conflict(number: u8) {
+    match number {
+        0 => text(b" not in conflict"),
+        1 => text(b" in conflict"),
+        _ => text(ASTRAY),
+    }
+}
+
 // A verdict on two loops, and the rounds that settling takes.
 fn loops(verdict: &[u8], rounds: usize) {
     text(verdict);
@@ -98,7 +110,7 @@ fn loops(verdict: &[u8], rounds: usize) {
 
 fn answer(answer: &Answer) {
     match answer {
-        Answer::Conflict(yes) => verdict(*yes, b" in conflict", b" not in conflict"),
+        Answer::Conflict(number) => conflict(*number),
         Answer::Form(told) => form(told),
         Answer::Pairs(told) => pairs(told),
         Answer::Slots(told) => slots(told),
@@ -106,7 +118,7 @@ fn answer(answer: &Answer) {
         Answer::Equal(yes) => verdict(*yes, b" equal", b" not equal"),
         Answer::Joined(rounds) => loops(b" joined", *rounds),
         Answer::Apart(rounds) => loops(b" apart", *rounds),
-        Answer::Astray(rounds) => loops(b" joined, but the lead-in is none", *rounds),
+        Answer::Astray(rounds) => loops(ASTRAY, *rounds),
         Answer::NoFault => text(b" no fault"),
         Answer::LeadIn(yes) => verdict(*yes, b" a lead-in", b" no lead-in"),
     }
