@@ -10,6 +10,6 @@ mod random;
 
 pub use buffer::Buffer;
 pub use catalogue::{Catalogue, random_catalogue};
-pub use damage::{area_size, harm, harm_size, plan_size};
+pub use damage::{area_size, catalogue_size, harm, harm_bytes, harm_size, plan_size};
 pub use plan::{Plan, random_plan};
 pub use random::Random;

@@ -9,10 +9,15 @@ pub struct Random {
 
 impl Random {
     pub fn new() -> Self {
-        Random { state: 1 }
+        Random::of(1)
     }
 
-    // A number below n. The state is never 0, since it is not at first.
+    // The numbers that follow this state; of 0 all are 0.
+    pub fn of(state: u32) -> Self {
+        Random { state }
+    }
+
+    // A number below n. The state is never 0 if it is not at first.
     pub fn draw(&mut self, n: usize) -> usize
         requires { 0 < n }
         ensures { result < n }

@@ -1,7 +1,7 @@
 // Lists of places at random, for a normal form of so many letters. That a list may be wrong is a property of it, which
 // its end and its size look at, as `second` tells of a place where it stands in its pair: neither picks a step.
 
-ghost use Rattle.std.specs.Prelude.{◌<◌, ◌≤◌};
+ghost use Rattle.std.specs.Prelude.{◌<◌, ◌≤◌, length};
 
 use cases_random::Random;
 
@@ -45,6 +45,7 @@ pub fn random_list<'a>(
     wrong: bool,
 ) -> &'a [u16]
     requires { letters < 256 }
+    ensures { length result.now ≤ 8 }
 {
     let end = end(random, letters, wrong);
     let n = size(random, wrong);
