@@ -1,5 +1,5 @@
 -- A word repeated in a row: copies of it are written behind those that stand, at most as many as stand.
-use Rattle.std.specs.Prelude.{ℕ, zero, suc, ◌+◌, ◌-◌, ◌*◌, ◌<◌, ◌≤◌, ◌≡◌, List, ◌++◌, length, take, drop}
+use Rattle.std.specs.Prelude.{ℕ, zero, suc, ◌+◌, ◌-◌, ◌*◌, ◌<◌, ◌≤◌, ◌≡◌, refl, List, [], ◌∷◌, ◌++◌, length, take, drop}
 use Rattle.std.proofs.Common.{arith, one-mul, mul-le-mul_right, sym, ◌∙◌, ap, subst, append_assoc, append-nil, length-append, length-drop, take-append-drop, length-take-le, take-take, take_at}
 use Rattle.std.proofs.Math.Nat.{add-mul}
 use Rattle.std.proofs.lemmas.List.{drop_at}
@@ -25,6 +25,15 @@ repeated_once : (x : List ℕ) → repeated 1 x ≡ x
 unfolding repeated
 repeated_once x = append-nil x
 
+repeated_nothing : (n : ℕ) → repeated n [] ≡ []
+unfolding repeated
+repeated_nothing zero = refl
+repeated_nothing (suc n) = repeated_nothing n
+
+no_length : (x : List ℕ) → length x ≡ 0 → x ≡ []
+no_length [] e = refl
+no_length (b ∷ x) e = absurd (omega arith)
+
 -- the bytes between two places
 
 abbrev pub between : List ℕ → ℕ → ℕ → List ℕ
@@ -44,6 +53,14 @@ module _ (row : List ℕ) (from to : ℕ) (h : from ≤ to) (l : to ≤ length r
         ∙ take-append-drop to row
         );
   }
+
+  -- nothing stands there, however often
+  pub repeating_nothing : from ≡ to → (count : ℕ)
+      → Appended row from (repeated count (between row from to)) row to
+  repeating_nothing e count =
+      let n : between row from to ≡ [] = no_length (between row from to) (omega (arith, between-length)) in
+      subst (λ z. Appended row from z row to)
+      (n ∙ sym (repeated_nothing count) ∙ ap (λ z. repeated count z) (sym n)) between_stands
 
 -- the first copies
 first_copies : (x rest : List ℕ) (n m : ℕ) → m ≤ n → take (m * length x) (repeated n x ++ rest) ≡ repeated m x

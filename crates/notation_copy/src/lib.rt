@@ -16,6 +16,9 @@ pub fn repeat(area: &mut [u8], from: usize, to: usize, count: usize) -> usize
     ensures { Appended area.old from (repeated count (drop from (take to area.old)))
         area.new result }
 {
+    if from == to {
+        return to;
+    }
     let width = to - from;
     // Each turn copies as many as stand, or as are wanted yet: so a count costs as many turns as it has bits.
     let mut n = 1;

@@ -1,7 +1,12 @@
 -- `notation_copy::repeat` meets its contract: the first copy stands, and each turn writes more behind those that stand.
 use Rattle.std.proofs.Common.{arith}
-use Rattle.notation_copy.specs.RepeatLaws.{repeating_start, repeating_source, repeating_room, repeating_again}
+use Rattle.notation_copy.specs.RepeatLaws.{repeating_nothing, repeating_start, repeating_room, repeating_again}
 use Rattle.notation_copy.proofs.repeat.Goals as goal
+
+pub returns-then-from-to : goal.returns-then-from-to
+returns-then-from-to c =
+    let a = c.args in
+    repeating_nothing a.area.now a.from a.to c.requires.in_order (omega (arith, c.requires.room)) c.if-from-to.true a.count
 
 pub loop-n-init : goal.loop-n-init
 loop-n-init c =
