@@ -56,15 +56,14 @@ fn record(c: &[u8], index: usize) -> usize
 }
 
 // Follows the chain of a head, for 1,025 records at most. Is one of them of the command whose head is the goal, or is
-// the chain longer.
+// the chain longer. No head stands at place 0, so that 0 in place of no goal is never met: looked at as an Option, the
+// goal costs the loop a third more time.
 pub fn walk(c: &[u8], start: usize, goal: Option<usize>) -> bool {
+    let goal = goal.unwrap_or(0);
     let mut j = index(c, start);
     for _turn in 0..1025 {
-        if j == 0 {
-            return false;
-        }
-        if goal == Some(head(c, at(c, record(c, j)))) {
-            return true;
+        if j == 0 || head(c, at(c, record(c, j))) == goal {
+            break;
         }
         j = index(c, record(c, j) + 1);
     }
