@@ -159,10 +159,10 @@ module _ (before : List ℕ) (from to count : ℕ) (h : from ≤ to) (once : 1 �
           = omega (arith, behind m, copies_fit (n + m) fits) in
           let some : m * (to - from) ≡ from + m * (to - from) - from = omega arith in
           let a : Appended before from (repeated n x ++ repeated m x) (pasted row n m)
-              (from + n * (to - from) + m * (to - from))
+          (from + n * (to - from) + m * (to - from))
           = subst (λ z. Appended before from (repeated n x ++ repeated m x)
-              (paste row (from + n * (to - from)) (drop from row) z) (from + n * (to - from) + m * (to - from))) some
-              (appended_paste c.appended (drop from row) (repeated m x) (m * (to - from)) (copied m l) size room) in
+          (paste row (from + n * (to - from)) (drop from row) z) (from + n * (to - from) + m * (to - from))) some
+          (appended_paste c.appended (drop from row) (repeated m x) (m * (to - from)) (copied m l) size room) in
           record {
             low = omega (arith, c.low);
             high = fits;
