@@ -20,7 +20,7 @@ pub sum_most : {line : List ℕ} → Bits line → (n : ℕ) → n ≤ 24 → su
 sum_most {line} b n l =
     let long : length (take n line) ≡ n = length-take-le n line (omega (arith, b.wide)) in
     let low = All-from_get_or (λ x. x ≤ 1) (take n line) 0
-        (λ j h. omega (arith, get_or-take n line j 0 (omega (arith, long)), b.low j (omega (arith, long)))) in
+    (λ j h. omega (arith, get_or-take n line j 0 (omega (arith, long)), b.low j (omega (arith, long)))) in
     omega (arith, sum_by-le (λ x. x) 1 (take n line) low, long)
 
 pub bits_fit : {line : List ℕ} → Bits line → sum line < 65536
