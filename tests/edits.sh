@@ -105,7 +105,7 @@ as_expected() { # WRONG SAID
     stops) grep -q '^case=1 run=fault ' "$2" ;;
     'runs on')
       grep -q '^interpreter: no-answer: the run did not finish within [0-9]* steps' "$2" &&
-        grep -Eq '^checked: fault kind=(index|range)-out-of-bounds ' "$2"
+        grep -q '^checked: fault kind=index-out-of-bounds ' "$2"
       ;;
     *) grep -q '^case=1 run=ended status=0 .*output=expected' "$2" ;;
   esac
