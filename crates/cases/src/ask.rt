@@ -4,7 +4,7 @@ ghost use Rattle.std.specs.Prelude.{◌<◌, ◌≤◌};
 
 use cases_report::{Answer, KEPT_NUMBER, Pairs, Slots, Told, kept, letters, refused, widened};
 use cases_solver::{Form, Refusal, at, leads};
-use cases_table::{Call, Part, Question};
+use cases_table::{Call, Field, Question};
 
 // The row of a command; that of command 1 for a number that is none. No Option: no line of the table asks about one.
 fn row(command: u8) -> usize
@@ -125,10 +125,10 @@ fn plain(answer: Result<Answer, Refusal>) -> Told {
 pub fn asked(q: &Question, area: &mut [u8], numbers: usize) -> Told
     requires { numbers ≤ 1100 }
 {
-    let c = q.bytes(Part::Catalogue);
-    let v = q.bytes(Part::V);
-    let w = q.bytes(Part::W);
-    let u = q.bytes(Part::U);
+    let c = q.bytes(Field::Catalogue);
+    let v = q.bytes(Field::V);
+    let w = q.bytes(Field::W);
+    let u = q.bytes(Field::U);
     match q.call {
         Call::Conflict => plain(conflict(c, v)),
         Call::NormalForm => {

@@ -10,7 +10,7 @@ mod solve;
 
 use cases_report::{answers, count, every};
 use cases_solver::at;
-use cases_table::{Call, Part, Question, end, in_second, plan_of_four, plans_of_two, read};
+use cases_table::{Call, Field, Question, end, in_second, plan_of_four, plans_of_two, read};
 
 const PLANS: &[u8] = b" plans of 4 bytes agree, in form, pairs and core\n";
 
@@ -20,21 +20,21 @@ const LOOPS: &[u8] = b" pairs of plans of 2 bytes agree, also in rounds\n";
 // agree.
 fn compare(q: &Question, catalogue: &[u8]) -> bool {
     let mut area = [0u8; 1100];
-    let n = q.size(Part::Area).min(1100);
-    let numbers = q.size(Part::SecondArea).min(1100);
+    let n = q.size(Field::Area).min(1100);
+    let numbers = q.size(Field::SecondArea).min(1100);
     let theirs = solve::told(q, catalogue, n, numbers);
     let ours = ask::asked(q, &mut area[..n], numbers);
-    answers(q.bytes(Part::Name), &ours, &theirs)
+    answers(q.bytes(Field::Name), &ours, &theirs)
 }
 
 // The same under its own catalogue.
 fn put(q: &Question) -> bool {
-    compare(q, q.bytes(Part::Catalogue))
+    compare(q, q.bytes(Field::Catalogue))
 }
 
 // The same, and once more where the library is given the catalogue in the second edition.
 fn put_twice(q: &Question) -> bool {
-    put(q) && compare(&in_second(q), q.bytes(Part::Catalogue))
+    put(q) && compare(&in_second(q), q.bytes(Field::Catalogue))
 }
 
 // Every line of the table. The table ends where a line would begin with a 0, or behind 16,384 bytes. No for: a line

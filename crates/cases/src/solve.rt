@@ -5,7 +5,7 @@ use cases_solver::{
     Refusal, at, check_catalogue, check_form, check_loops, check_normal_form, check_slots,
     check_three, core, in_order, joined, leads, most_rounds, normal_form, tied,
 };
-use cases_table::{Call, Part, Question};
+use cases_table::{Call, Field, Question};
 
 fn pairs(c: &[u8], plan: &[u8]) -> Answer {
     let mut numbers = [KEPT_NUMBER; 1100];
@@ -36,9 +36,9 @@ fn loops(c: &[u8], v: &[u8], w: &[u8]) -> Answer {
 
 // The answer to a question under this catalogue, in an area of so many bytes and a second one of so many numbers.
 fn solved(q: &Question, c: &[u8], room: usize, numbers: usize) -> Result<Answer, Refusal> {
-    let v = q.bytes(Part::V);
-    let w = q.bytes(Part::W);
-    let u = q.bytes(Part::U);
+    let v = q.bytes(Field::V);
+    let w = q.bytes(Field::W);
+    let u = q.bytes(Field::U);
     match q.call {
         Call::Conflict => {
             let number = u8::from(tied(c, at(v, 0), at(v, 1)));

@@ -6,10 +6,12 @@ ghost use Rattle.std.specs.Prelude.{◌<◌, ◌≤◌, length};
 
 mod every;
 mod line;
+mod part;
 mod second;
 
 pub use every::{plan_of_four, plans_of_two};
 pub use line::{end, read};
+pub use part::Part;
 pub use second::in_second;
 
 // The calls; the table has the word in brackets.
@@ -34,9 +36,10 @@ pub enum Call {
     LeadIn,
 }
 
-// The parts of a question, in the order in which their bytes begin. Of the two areas the sizes count.
+// The fields of a question's row, one for each part, in the order in which their bytes begin. Of the two areas the sizes
+// count.
 #[derive(Clone, Copy, PartialEq, Eq)]
-pub enum Part {
+pub enum Field {
     W,
     U,
     Area,
@@ -46,7 +49,7 @@ pub enum Part {
     V,
 }
 
-impl Part {
+impl Field {
     fn index(self) -> usize
         ensures { result < 7 }
     {
@@ -58,7 +61,7 @@ impl Part {
         ensures { result ≤ 3840 }
     {
         match self {
-            Part::V => 3840,
+            Field::V => 3840,
             _ => 128 * self.index(),
         }
     }
@@ -84,8 +87,8 @@ impl Question {
             sizes: [0; 7],
             bytes: [0; 4940],
         };
-        q.resize(Part::Area, 1100);
-        q.resize(Part::SecondArea, 1100);
+        q.resize(Field::Area, 1100);
+        q.resize(Field::SecondArea, 1100);
         q
     }
 
@@ -97,20 +100,20 @@ impl Question {
     }
 
     fn bring_k(&mut self) {
-        self.resize(Part::Catalogue, 0);
+        self.resize(Field::Catalogue, 0);
         for b in &[4, 3, 1, 2, 3, 0, 2, 0, 3, 0, 4, 0] {
-            self.push(Part::Catalogue, *b);
+            self.push(Field::Catalogue, *b);
         }
     }
 
-    pub fn size(&self, part: Part) -> usize
+    pub fn size(&self, part: Field) -> usize
         ensures { result < 65536 }
     {
         usize::from(self.sizes[part.index()])
     }
 
     // The bytes of a part; none if they would go past the end of the row.
-    pub fn bytes(&self, part: Part) -> &[u8]
+    pub fn bytes(&self, part: Field) -> &[u8]
         ensures { length result.now ≤ 4940 }
     {
         let start = part.start();
@@ -123,7 +126,7 @@ impl Question {
     }
 
     // One more byte in a part; none is written past the end of the row.
-    fn push(&mut self, part: Part, b: u8) {
+    fn push(&mut self, part: Field, b: u8) {
         let n = self.size(part);
         let place = part.start() + n;
         if place < 4940 {
@@ -133,7 +136,7 @@ impl Question {
     }
 
     // Makes a part so many bytes in all, whatever these are.
-    fn resize(&mut self, part: Part, size: usize) {
+    fn resize(&mut self, part: Field, size: usize) {
         self.sizes[part.index()] = (size % 65536) as u16;
     }
 }

@@ -5,29 +5,29 @@
 
 ghost use Rattle.std.specs.Prelude.{◌<◌, ◌≤◌};
 
-use crate::{Call, Part, Question};
+use crate::{Call, Field, Question};
 use cases_solver::at;
 
 // The part that a character opens, or else the part that is open; ";" goes round all of them.
-fn opened(open: Part, mark: u8) -> Part {
+fn opened(open: Field, mark: u8) -> Field {
     match mark {
-        b':' => Part::V,
+        b':' => Field::V,
         b';' => next(open),
-        b'@' => Part::Area,
-        b'#' => Part::Catalogue,
+        b'@' => Field::Area,
+        b'#' => Field::Catalogue,
         _ => open,
     }
 }
 
-fn next(open: Part) -> Part {
+fn next(open: Field) -> Field {
     match open {
-        Part::W => Part::U,
-        Part::U => Part::Area,
-        Part::Area => Part::SecondArea,
-        Part::SecondArea => Part::Name,
-        Part::Name => Part::Catalogue,
-        Part::Catalogue => Part::V,
-        Part::V => Part::W,
+        Field::W => Field::U,
+        Field::U => Field::Area,
+        Field::Area => Field::SecondArea,
+        Field::SecondArea => Field::Name,
+        Field::Name => Field::Catalogue,
+        Field::Catalogue => Field::V,
+        Field::V => Field::W,
     }
 }
 
@@ -69,7 +69,7 @@ fn byte(mark: u8, value: usize) -> u8 {
 }
 
 // The records before number n of the second edition, of command 2, each of which leads to the next one.
-fn push_chain(q: &mut Question, part: Part, n: usize)
+fn push_chain(q: &mut Question, part: Field, n: usize)
     requires { n < 10000 }
 {
     for next in 2..n + 1 {
@@ -80,7 +80,7 @@ fn push_chain(q: &mut Question, part: Part, n: usize)
 }
 
 // Takes a number behind a mark into a part: one byte more, or after "x" so many in all, or after "~" a chain.
-fn take(q: &mut Question, part: Part, mark: u8, value: usize)
+fn take(q: &mut Question, part: Field, mark: u8, value: usize)
     requires { value < 10000 }
 {
     match mark {
@@ -91,8 +91,8 @@ fn take(q: &mut Question, part: Part, mark: u8, value: usize)
 }
 
 // A letter of the name, or a number that begins behind a mark.
-fn keep(q: &mut Question, open: Part, mark: u8, behind: &[u8]) {
-    if open == Part::Name {
+fn keep(q: &mut Question, open: Field, mark: u8, behind: &[u8]) {
+    if open == Field::Name {
         q.push(open, mark);
     } else if !mark.is_ascii_digit() {
         if let [b'0'..=b'9', ..] = behind {
@@ -102,12 +102,12 @@ fn keep(q: &mut Question, open: Part, mark: u8, behind: &[u8]) {
 }
 
 // Opens a part, which begins with no byte; behind a mark and one more byte stands the call, in front of v.
-fn begin(q: &mut Question, open: Part, behind: &[u8]) {
+fn begin(q: &mut Question, open: Field, behind: &[u8]) {
     let word = behind.get(1..).unwrap_or(b"");
     q.resize(open, 0);
     match open {
-        Part::V => q.call = call(word),
-        Part::Catalogue => q.own_catalogue = at(word, 0) != 0,
+        Field::V => q.call = call(word),
+        Field::Catalogue => q.own_catalogue = at(word, 0) != 0,
         _ => {}
     }
 }
@@ -115,7 +115,7 @@ fn begin(q: &mut Question, open: Part, behind: &[u8]) {
 // Reads the line at a place of a text, of which 16,383 bytes are read; behind its end stand zeros.
 fn read_line(text: &[u8], start: usize) -> Question {
     let mut q = Question::blank(Call::LeadIn);
-    let mut open = Part::Name;
+    let mut open = Field::Name;
     for i in start..16383 {
         let mark = at(text, i);
         if mark == b'\n' {

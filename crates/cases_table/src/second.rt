@@ -2,7 +2,7 @@
 
 ghost use Rattle.std.specs.Prelude.{◌<◌};
 
-use crate::{Part, Question};
+use crate::{Field, Question};
 use cases_solver::{at, check_catalogue};
 
 // A low byte, or the high byte 0 behind it; `low` tells where the byte stands, and picks no step.
@@ -29,17 +29,17 @@ fn byte(c: &[u8], n: usize, i: usize) -> u8
 fn rewrite(q: &mut Question, c: &[u8]) {
     let n = usize::from(at(c, 0) % 128);
     let r = usize::from(at(c, 1));
-    q.resize(Part::Catalogue, 0);
+    q.resize(Field::Catalogue, 0);
     for i in 0..3 + 2 * n + 3 * r {
-        q.push(Part::Catalogue, byte(c, n, i));
+        q.push(Field::Catalogue, byte(c, n, i));
     }
 }
 
 // The question without its name and in the second edition, if its catalogue is of the first and passes.
 pub fn in_second(q: &Question) -> Question {
-    let c = q.bytes(Part::Catalogue);
+    let c = q.bytes(Field::Catalogue);
     let mut again = *q;
-    again.resize(Part::Name, 0);
+    again.resize(Field::Name, 0);
     if at(c, 0) < 128 && check_catalogue(c).is_ok() {
         rewrite(&mut again, c);
     }
