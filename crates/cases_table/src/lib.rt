@@ -2,7 +2,8 @@
 
 #![tactic(auto)]
 
-ghost use Rattle.std.specs.Prelude.{◌<◌, ◌≤◌, length};
+ghost use Rattle.std.specs.Prelude.{◌≡◌, ◌<◌, ◌≤◌, ◌+◌, ◌%◌, get_or, length, set};
+ghost use Rattle.cases_table.specs.Row.{index_of, start_of};
 
 mod every;
 mod line;
@@ -51,14 +52,16 @@ pub enum Field {
 
 impl Field {
     fn index(self) -> usize
-        ensures { result < 7 }
+        ensures number { result ≡ index_of self }
+        ensures bound { result < 7 }
     {
         self as usize
     }
 
     // Where its bytes begin: a part has room for 128 of them, but the catalogue for 3,200 and v for 1,100.
     fn start(self) -> usize
-        ensures { result ≤ 3840 }
+        ensures place { result ≡ start_of self }
+        ensures bound { result ≤ 3840 }
     {
         match self {
             Field::V => 3840,
@@ -80,7 +83,9 @@ pub struct Question {
 
 impl Question {
     // A call with no catalogue, on empty plans, in areas that are large enough for any case.
-    fn blank(call: Call) -> Question {
+    fn blank(call: Call) -> Question
+        ensures { result.call ≡ call }
+    {
         let mut q = Question {
             call,
             own_catalogue: false,
@@ -93,13 +98,17 @@ impl Question {
     }
 
     // The same under K, with conflicts 1-2, 2-3, 3-4.
-    fn under_k(call: Call) -> Question {
+    pub fn under_k(call: Call) -> Question
+        ensures { result.call ≡ call }
+    {
         let mut q = Question::blank(call);
         q.bring_k();
         q
     }
 
-    fn bring_k(&mut self) {
+    fn bring_k(&mut self)
+        ensures { self.new.call ≡ self.old.call }
+    {
         self.resize(Field::Catalogue, 0);
         for b in &[4, 3, 1, 2, 3, 0, 2, 0, 3, 0, 4, 0] {
             self.push(Field::Catalogue, *b);
@@ -107,7 +116,8 @@ impl Question {
     }
 
     pub fn size(&self, part: Field) -> usize
-        ensures { result < 65536 }
+        ensures value { result ≡ get_or self.now.sizes (index_of part) 0 }
+        ensures bound { result < 65536 }
     {
         usize::from(self.sizes[part.index()])
     }
@@ -126,7 +136,13 @@ impl Question {
     }
 
     // One more byte in a part; none is written past the end of the row.
-    fn push(&mut self, part: Field, b: u8) {
+    pub fn push(&mut self, part: Field, b: u8)
+        ensures size { self.new.sizes ≡ set self.old.sizes (index_of part)
+            ((get_or self.old.sizes (index_of part) 0 + 1) % 65536) }
+        ensures byte { self.new.bytes ≡ set self.old.bytes
+            (start_of part + get_or self.old.sizes (index_of part) 0) b }
+        ensures rest { (self.new.call ≡ self.old.call) × (self.new.own_catalogue ≡ self.old.own_catalogue) }
+    {
         let n = self.size(part);
         let place = part.start() + n;
         if place < 4940 {
@@ -136,7 +152,35 @@ impl Question {
     }
 
     // Makes a part so many bytes in all, whatever these are.
-    fn resize(&mut self, part: Field, size: usize) {
+    pub fn resize(&mut self, part: Field, size: usize)
+        ensures size { self.new.sizes ≡ set self.old.sizes (index_of part) (size % 65536) }
+        ensures bytes { self.new.bytes ≡ self.old.bytes }
+        ensures rest { (self.new.call ≡ self.old.call) × (self.new.own_catalogue ≡ self.old.own_catalogue) }
+    {
         self.sizes[part.index()] = (size % 65536) as u16;
+    }
+}
+
+#[cfg(test)]
+mod tests {
+    use super::*;
+
+    #[test]
+    fn question_is_made_of_parts(rt: HostRuntime) {
+        let mut q = Question::under_k(Call::Equal);
+        assert!(rt; q.call == Call::Equal);
+        let k = [4u8, 3, 1, 2, 3, 0, 2, 0, 3, 0, 4, 0];
+        assert_eq!(rt; q.bytes(Field::Catalogue), k.as_slice());
+        assert_eq!(rt; q.size(Field::Area), 1100);
+        q.push(Field::V, 4);
+        q.push(Field::V, 129);
+        q.push(Field::W, 2);
+        assert_eq!(rt; q.bytes(Field::V), [4u8, 129].as_slice());
+        assert_eq!(rt; q.bytes(Field::W), [2u8].as_slice());
+        q.resize(Field::V, 1);
+        assert_eq!(rt; q.bytes(Field::V), [4u8].as_slice());
+        let again = in_second(&q);
+        assert_eq!(rt; again.bytes(Field::Catalogue).first().copied(), Some(132u8));
+        assert_eq!(rt; again.bytes(Field::V), [4u8].as_slice());
     }
 }
