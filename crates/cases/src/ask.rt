@@ -2,7 +2,7 @@
 
 ghost use Rattle.std.specs.Prelude.{◌<◌, ◌≤◌};
 
-use cases_report::{Answer, KEPT_NUMBER, Pairs, Slots, Told, kept, letters, refused, widened};
+use cases_report::{Answer, KEPT_NUMBER, Pairs, SlotRow, Told, kept, letters, refused, widened};
 use cases_solver::{Form, Refusal, at, leads};
 use cases_table::{Call, Field, Question};
 
@@ -46,15 +46,15 @@ fn pairs(c: &[u8], v: &[u8], area: &mut [u8], numbers: usize) -> Told
     let pairs = answer.map_or(0, |form| form.pairs);
     Told {
         answer: answer
-            .map(|_| Answer::Pairs(Pairs::of(&second, pairs)))
+            .map(|_| Answer::Pairs(Pairs::in_row(&second, pairs)))
             .map_err(refused),
         kept: kept(&second, pairs.saturating_mul(2), &KEPT_NUMBER),
     }
 }
 
 // Slots, with a byte over letter 59 that is 0 if all numbers were kept that were to be kept.
-fn told_slots(form: Form, numbers: &[u16], in_use: usize, kept: bool) -> Slots {
-    let mut told = Slots::of(form, numbers, in_use);
+fn told_slots(form: Form, numbers: &[u16], in_use: usize, kept: bool) -> SlotRow {
+    let mut told = SlotRow::of(form, numbers, in_use);
     told.form.letters[58] = u8::from(!kept);
     told
 }

@@ -1,6 +1,6 @@
 // What the solver answers.
 
-use cases_report::{Answer, KEPT_NUMBER, Pairs, Slots, Told, widened};
+use cases_report::{Answer, KEPT_NUMBER, Pairs, SlotRow, Told, widened};
 use cases_solver::{
     Refusal, at, check_catalogue, check_form, check_loops, check_normal_form, check_slots,
     check_three, core, in_order, joined, leads, most_rounds, normal_form, tied,
@@ -10,13 +10,13 @@ use cases_table::{Call, Field, Question};
 fn pairs(c: &[u8], plan: &[u8]) -> Answer {
     let mut numbers = [KEPT_NUMBER; 1100];
     let count = cases_solver::pairs(c, plan, &mut numbers);
-    Answer::Pairs(Pairs::of(&numbers, count))
+    Answer::Pairs(Pairs::in_row(&numbers, count))
 }
 
 fn slots(c: &[u8], plan: &[u8]) -> Answer {
     let mut numbers = [KEPT_NUMBER; 1100];
     let in_use = cases_solver::slots(c, plan, &mut numbers);
-    Answer::Slots(Slots::of(normal_form(c, plan), &numbers, in_use))
+    Answer::Slots(SlotRow::of(normal_form(c, plan), &numbers, in_use))
 }
 
 // Whether the letters of the normal form stay in the order of these places.

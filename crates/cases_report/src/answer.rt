@@ -1,9 +1,11 @@
 // Answers, as they are compared and printed.
 
+ghost use Rattle.std.specs.Prelude.{◌≡◌};
+
 use cases_solver::{Form, Refusal, at};
 
-// Pairs: how many there are, modulo 256, and the places of the letters of the first 14, that of the earlier letter
-// before that of the later, with zeros behind them.
+// Pairs: how many there are, and the places of the letters of the first 14, that of the earlier letter before that of
+// the later, with zeros behind them.
 #[derive(Clone, Copy, PartialEq, Eq)]
 pub struct Pairs {
     pub count: usize,
@@ -12,7 +14,9 @@ pub struct Pairs {
 
 impl Pairs {
     // So many pairs at the start of a second area.
-    pub fn of(numbers: &[u16], count: usize) -> Pairs {
+    pub fn of(numbers: &[u16], count: usize) -> Pairs
+        ensures { result.count ≡ count }
+    {
         let mut places = [0; 28];
         for (place, number) in places
             .iter_mut()
@@ -20,17 +24,47 @@ impl Pairs {
         {
             *place = *number;
         }
-        Pairs {
-            count: count % 256,
-            places,
+        Pairs { count, places }
+    }
+
+    // The same, how many there are told modulo 256, as an answer has them.
+    pub fn in_row(numbers: &[u16], count: usize) -> Pairs {
+        let mut told = Pairs::of(numbers, count);
+        told.count %= 256;
+        told
+    }
+}
+
+// A normal form, the slots of its first 28 letters with zeros behind them, and how many slots are in use.
+#[derive(Clone, Copy, PartialEq, Eq)]
+pub struct Slots {
+    pub form: Form,
+    pub slots: [u16; 28],
+    pub in_use: usize,
+}
+
+impl Slots {
+    // The slots at the start of a slot area; one that is above 255 is told as 255.
+    pub fn of(form: Form, numbers: &[u16], in_use: usize) -> Slots
+        ensures form { result.form ≡ form }
+        ensures in_use { result.in_use ≡ in_use }
+    {
+        let mut slots = [0; 28];
+        for (slot, number) in slots.iter_mut().zip(numbers.iter().take(form.length)) {
+            *slot = (*number).min(255);
+        }
+        Slots {
+            form,
+            slots,
+            in_use,
         }
     }
 }
 
-// A normal form, the slots of its first 28 letters with zeros behind them, and how many slots are in use. There is room
-// for these letters alone: over the ones behind them lie the number in use and then the slots.
+// Slots as an answer has them, a byte each. There is room for 28 letters alone: over the ones behind them lie the number
+// in use and then the slots.
 #[derive(Clone, Copy, PartialEq, Eq)]
-pub struct Slots {
+pub struct SlotRow {
     pub form: Form,
     pub slots: [u8; 28],
     pub in_use: u8,
@@ -41,10 +75,10 @@ fn short(number: usize) -> u8 {
     u8::try_from(number).unwrap_or(255)
 }
 
-impl Slots {
+impl SlotRow {
     // The slots at the start of a slot area.
-    pub fn of(form: Form, numbers: &[u16], in_use: usize) -> Slots {
-        let mut told = Slots {
+    pub fn of(form: Form, numbers: &[u16], in_use: usize) -> SlotRow {
+        let mut told = SlotRow {
             form,
             slots: [0; 28],
             in_use: short(in_use),
@@ -67,7 +101,7 @@ pub enum Answer {
     // a normal form or a core, its length modulo 256
     Form(Form),
     Pairs(Pairs),
-    Slots(Slots),
+    Slots(SlotRow),
     // of a precedence check
     InOrder(bool),
     // of two plans
@@ -85,4 +119,30 @@ pub enum Answer {
 pub struct Told {
     pub answer: Result<Answer, Refusal>,
     pub kept: bool,
+}
+
+#[cfg(test)]
+mod tests {
+    use super::*;
+
+    #[test]
+    fn numbers_are_told_whole(rt: HostRuntime) {
+        let pairs = Pairs::of(&[1, 4, 2, 3], 300);
+        assert_eq!(rt; pairs.count, 300);
+        assert_eq!(rt; pairs.places[3], 3);
+        assert_eq!(rt; Pairs::in_row(&[1, 4, 2, 3], 300).count, 44);
+        let form = Form {
+            length: 29,
+            letters: [4; 64],
+        };
+        let slots = Slots::of(form, &[7; 29], 300);
+        assert_eq!(rt; slots.in_use, 300);
+        assert_eq!(rt; slots.slots[27], 7);
+        assert_eq!(rt; slots.form.letters[28], 4);
+        let row = SlotRow::of(form, &[7; 29], 300);
+        assert_eq!(rt; row.in_use, 255);
+        assert_eq!(rt; row.slots[27], 7);
+        assert_eq!(rt; row.form.letters[28], 255);
+        assert_eq!(rt; row.form.letters[29], 7);
+    }
 }

@@ -7,7 +7,7 @@ mod areas;
 mod library;
 mod printing;
 
-pub use answer::{Answer, Pairs, Slots, Told};
+pub use answer::{Answer, Pairs, SlotRow, Slots, Told};
 pub use areas::{Bytes, KEPT_BYTE, KEPT_NUMBER, Numbers, kept, widened};
 pub use library::{letters, refused};
 pub use printing::{answers, byte, count, every, number, refusal, signed, text};

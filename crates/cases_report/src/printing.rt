@@ -1,7 +1,7 @@
 // Printing: answers, each behind a space and letters as the manual writes them, and counts. The kit's io takes no
 // handle, which Display and println would have to be given.
 
-use crate::answer::{Answer, Pairs, Slots, Told};
+use crate::answer::{Answer, Pairs, SlotRow, Told};
 use cases_solver::{Form, Refusal, at};
 
 pub fn text(bytes: &[u8]) {
@@ -61,7 +61,7 @@ fn in_use(n: usize) {
 }
 
 // A normal form and its slots.
-fn slots(slots: &Slots) {
+fn slots(slots: &SlotRow) {
     form(&slots.form);
     if slots.form.length != 0 {
         text(b", slots");
